@@ -1,0 +1,3 @@
+pub mod DaysLaws
+pub mod Masks
+pub mod SecondsLaws
