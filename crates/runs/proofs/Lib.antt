@@ -1,0 +1,9 @@
+pub mod Members
+pub mod Pigeonhole
+pub mod Order
+pub mod Enumeration
+pub mod Cutting
+pub mod Cells
+pub mod Theorem
+pub mod Columns
+pub mod Extending

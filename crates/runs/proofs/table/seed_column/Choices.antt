@@ -1,0 +1,10 @@
+use mathlib.Core.Path.{_≡_}
+use Prim.Native.Nat.{ℕ, _<_}
+use Rattle.runs.specs.Rounds.{seed, column-of, OthersKept}
+use Rattle.runs.proofs.table.seed_column.Given as given
+
+abbrev pub Inv-loop-i : given.InvT-loop-i
+Inv-loop-i g l =
+    let K = g .W·Weight .kind in
+    let m = g .W·Weight .meaning in
+    ((t : ℕ) → t < l .i → column-of K m (l .n) (l .j) (l .cells) t ≡ seed K t (l .j)) × OthersKept K m (l .n) (l .j) (l .entry .cells) (l .cells)
