@@ -122,6 +122,11 @@ module _ (K : Kind) (L : Laws K) (net : Net) (w : ℕ → K .carrier) where
     pub round-closed : (k j : ℕ) (x : ℕ → K .carrier) → IsColumn k j x → extend K net w x j (net .links) ≡ choice-over K w (closed-runs net k j)
     round-closed k j x is = extend-same x (cells-of k j) j (net .links) (λ l h. is (net .to l) (b l h .1)) ∙ sym (closed-is k j)
 
+    -- the column that a round makes: first what the empty runs give, then each link
+    pub next-column : (k j : ℕ) (x seeded extended : ℕ → K .carrier) → IsColumn k j x → ((i : ℕ) → i < n → seeded i ≡ seed K i j)
+        → ((i : ℕ) → i < n → extended i ≡ K .choice (seeded i) (extend K net w x i (net .links))) → IsColumn (k + 1) j extended
+    next-column k j x seeded extended is first then i h = then i h ∙ ap (λ y. K .choice y (extend K net w x i (net .links))) (first i h) ∙ round-cell k j x is i
+
     -- a round that changes nothing leaves nothing to change
     settled : (k j : ℕ) → ((e : ℕ) → e < n → cell K net w (k + 1) e j ≡ cell K net w k e j) → (d e : ℕ) → e < n → cell K net w (d + k) e j ≡ cell K net w k e j
     settled k j same zero e h = ap (λ z. cell K net w z e j) (omega arith)

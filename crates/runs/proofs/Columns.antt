@@ -90,6 +90,3 @@ module _ (K : Kind) {X : Type 0} (m : X → K .carrier) where
     pub others-more : (old xs : List X) (i : ℕ) (w : X) → OthersKept K m n j old xs → OthersKept K m n j old (set xs (i * n + j) w)
     others-more old xs i w kept r q hr hq ne =
         at-set-other xs (i * n + j) (r * n + q) w (λ same. ne (column-same n r q i j hq hj same)) ∙ kept r q hr hq ne
-
-    pub others-then : (a b c : List X) → OthersKept K m n j a b → OthersKept K m n j b c → OthersKept K m n j a c
-    others-then a b c first second r q hr hq ne = second r q hr hq ne ∙ first r q hr hq ne

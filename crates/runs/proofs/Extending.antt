@@ -2,7 +2,7 @@
 use mathlib.Core.Path.{_≡_, refl, sym, ap, subst, _∙_}
 use mathlib.Core.Bool.{Bool, true, false, cond}
 use mathlib.Core.List.{List, [], _∷_}
-use Prim.Native.Nat.{ℕ, _+_, _*_, _<_, _≤_}
+use Prim.Native.Nat.{ℕ, _+_, _-_, _*_, _<_, _≤_}
 use native.Mathlib.Decide.{ℕ-discrete}
 use native.Mathlib.Omega.{arith}
 use lib.Dec.{eqb}
@@ -16,9 +16,11 @@ use Rattle.std.proofs.shelf.Lists.{drop-more, drop-all}
 use Rattle.weights.specs.Kinds.{Kind, Laws}
 use Rattle.runs.specs.declared.Link.{Link}
 use Rattle.runs.specs.Nets.{Net, Within}
+use Rattle.runs.specs.Runs.{cell}
 use Rattle.runs.specs.Links.{no-link, net-of, at}
 use Rattle.runs.specs.Rounds.{extend, Fit, column-of}
-use Rattle.runs.proofs.Columns.{link-place, link-end, at-read, column-set-same, column-set-other}
+use Rattle.runs.proofs.Cells.{cell-span}
+use Rattle.runs.proofs.Columns.{link-place, link-end, all-read, at-read, all-from-at, light-at, column-set-same, column-set-other}
 use Rattle.runs.proofs.Members.{in-counting}
 use Rattle.runs.proofs.Order.{none-choice}
 
@@ -102,3 +104,20 @@ module _ (K : Kind) (L : Laws K) {X : Type 0} (m : X → K .carrier) (n j : ℕ)
       link-more K L ls w x i k (column i) (column-of K m n j (set cells (from * n + j) new) i) h
       (λ e. subst (λ y. column-of K m n j (set cells (from * n + j) new) y ≡ K .choice (column y) (K .chaining (w k) (x to))) e here)
       (λ ne. column-set-other K m n j hj cells from i new (λ e. ne (sym e)))
+
+-- a column of cells leaves room for one more link
+pub column-room : (K : Kind) (L : Laws K) {X : Type 0} (m : X → K .carrier) (net : Net) (ws column : List X) (n k j : ℕ) → All (λ w. K .span (m w) ≤ 1) ws → length column ≡ n → k ≤ 32
+    → ((i : ℕ) → i < n → at K m column i ≡ cell K net (at K m ws) k i j) → All (λ w. K .span (m w) ≤ 31) column
+column-room K L m net ws column n k j light side few is = all-from-at K m (λ v. K .span v ≤ 31) column (λ t h.
+    let small : K .span (cell K net (at K m ws) k t j) ≤ k - 1 = cell-span K L net (at K m ws) (light-at K m L ws light) k t j in
+    subst (λ v. K .span v ≤ 31) (sym (is t (omega arith))) (omega arith))
+
+-- what the chaining of the k-th link's weight with the weight behind it asks
+pub chain-room : (K : Kind) {X : Type 0} (m : X → K .carrier) (n k : ℕ) (ls : List Link) (ws behind : List X) (weight back : X) → Fit K m n ls ws → length behind ≡ n → All (λ w. K .span (m w) ≤ 31) behind → k < length ls
+    → weight ≡ getD ws k weight → back ≡ getD behind (getD ls k no-link .to) back → K .span (m weight) + K .span (m back) ≤ 32
+chain-room K m n k ls ws behind weight back fit side room h weight-is back-is =
+    let inside : k < length ws = omega (arith, fit .paired) in
+    let end : getD ls k no-link .to < length behind = link-end n k (length behind) ls side h (fit .within) in
+    let one = all-read (λ w. K .span (m w) ≤ 1) ws k weight inside weight-is (fit .light) in
+    let more = all-read (λ w. K .span (m w) ≤ 31) behind (getD ls k no-link .to) back end back-is room in
+    omega arith

@@ -6,7 +6,9 @@ use mathlib.Core.Logic.{inl, inr, ⊎-elim}
 use Prim.Native.Nat.{ℕ, zero, suc, _+_, _<_}
 use native.Mathlib.Omega.{arith}
 use native.Mathlib.Decide.{ℕ-discrete}
+use borrow.Author.Tests.{clash}
 use Rattle.std.specs.Iters.{counting}
+use Rattle.std.specs.Orderings.{Decides}
 use Rattle.std.specs.shelf.Lists.{All}
 use Rattle.runs.specs.Nets.{In}
 
@@ -51,3 +53,10 @@ pub in-counting : (x a n : ℕ) → In x (counting a n) → x < a + n
 in-counting x a zero h = absurd h
 in-counting x a (suc n) (inl e) = omega arith
 in-counting x a (suc n) (inr h) = let lt : x < a + 1 + n = in-counting x (a + 1) n h in omega arith
+
+-- a test that says no of what does not hold, and yes of what does
+pub decides-no : {P : Type 0} → (P → ⊥) → Decides false P
+decides-no n = (λ e. absurd (clash e), λ p. absurd (n p))
+
+pub decides-yes : {P : Type 0} → P → Decides true P
+decides-yes p = (λ _. p, λ _. refl)

@@ -12,6 +12,7 @@ use Prim.Native.Nat.{ℕ, zero, suc, _<_, _≤_}
 use native.Mathlib.Omega.{arith}
 use native.Mathlib.Decide.{decLt}
 use lib.ListN.{length}
+use borrow.Author.Tests.{clash}
 use Rattle.std.specs.Orderings.{Decides}
 use Rattle.std.specs.shelf.Lists.{All}
 use Rattle.std.proofs.shelf.Elements.{all-weaker}
@@ -19,11 +20,11 @@ use Rattle.std.proofs.shelf.Lists.{length-map}
 use Rattle.std.proofs.shelf.Ways.{decides-not}
 use Rattle.weights.specs.Kinds.{Kind, Laws, Idempotent, AtMost, Gains, gains}
 use Rattle.runs.specs.Nets.{Net, In, Distinct, IsRun, IsCircuit, Within}
-use Rattle.runs.specs.Runs.{weigh, runs-below, closed-runs, cell}
+use Rattle.runs.specs.Runs.{weigh, choice-over, runs-below, closed-runs, cell}
 use Rattle.runs.specs.Gaining.{some-gains, SomeCircuitGains, NoCircuitGains, LeastAbove}
 use Rattle.runs.proofs.Members.{all-in}
 use Rattle.runs.proofs.Pigeonhole.{at-most}
-use Rattle.runs.proofs.Order.{at-most-trans, choice-above, choice-least, shortened}
+use Rattle.runs.proofs.Order.{at-most-trans, first-at-most, second-at-most, choice-above, choice-least, shortened}
 use Rattle.runs.proofs.Enumeration.{in-longer, in-runs, runs-are, closed-are}
 use Rattle.runs.proofs.Cutting.{events, Cut, InnerCut, distinct-or-cut, events-below, long-cut, cut-length, short-run, short-length}
 
@@ -40,7 +41,7 @@ module _ (K : Kind) (L : Laws K) (I : Idempotent K) (net : Net) (w : ℕ → K .
     where
       go : (t : Bool) → Decides t (Calm run) → Dec (Calm run)
       go true d = yes (d .0 refl)
-      go false d = no (λ c. let z : false ≡ true = d .1 c in let o : _≡_ {A = ℕ} 0 1 = cc in omega arith)
+      go false d = no (λ c. clash (d .1 c))
 
   -- a run weighs at most what it weighs without a closed part that does not gain
   less : (i j : ℕ) (run : List ℕ) (c : Cut net i j run) → Calm (c .loop) → AtMost K (weigh K w run) (weigh K w (c .before ++ c .after))
@@ -106,6 +107,28 @@ module _ (K : Kind) (L : Laws K) (I : Idempotent K) (net : Net) (w : ℕ → K .
   calm-none-gains : (runs : List (List ℕ)) → All Calm runs → some-gains K w runs ≡ false
   calm-none-gains [] h = refl
   calm-none-gains (run ∷ runs) h = ap (λ t. not t || some-gains K w runs) (L .equal-says (K .choice (weigh K w run) (K .start)) (K .start) .1 (h .0)) ∙ calm-none-gains runs (h .1)
+
+  over-calm : (runs : List (List ℕ)) → AtMost K (choice-over K w runs) (K .start) → All Calm runs
+  over-calm [] h = tt
+  over-calm (run ∷ runs) h = (
+    at-most-trans K L I (weigh K w run) (choice-over K w (run ∷ runs)) (K .start) (first-at-most K L I (weigh K w run) (choice-over K w runs)) h,
+    over-calm runs (at-most-trans K L I (choice-over K w runs) (choice-over K w (run ∷ runs)) (K .start) (second-at-most K L I (weigh K w run) (choice-over K w runs)) h),
+  )
+
+  -- the choice over some runs gains exactly when one of them does
+  pub gains-over : (runs : List (List ℕ)) (v : K .carrier) → v ≡ choice-over K w runs → gains K v ≡ some-gains K w runs
+  gains-over runs v e = go (K .equal (K .choice v (K .start)) (K .start)) (some-gains K w runs) refl (L .equal-says (K .choice v (K .start)) (K .start))
+    where
+      calm : AtMost K v (K .start) → All Calm runs
+      calm h = over-calm runs (subst (λ y. AtMost K y (K .start)) e h)
+
+      over : All Calm runs → AtMost K v (K .start)
+      over h = subst (λ y. AtMost K y (K .start)) (sym e) (choice-least K L I w runs (K .start) h)
+
+      go : (t s : Bool) → some-gains K w runs ≡ s → Decides t (AtMost K v (K .start)) → not t ≡ s
+      go true s is d = sym (calm-none-gains runs (calm (d .0 refl))) ∙ is
+      go false true is d = refl
+      go false false is d = absurd (clash (d .1 (over (all-calm runs is))))
 
   pub gaining-circuit : (n j : ℕ) → some-gains K w (closed-runs net n j) ≡ true → SomeCircuitGains K net w
   gaining-circuit n j e = let t = one-gains (closed-runs net n j) e in circuit-in (length (t .0)) j (t .0) (omega arith) (all-in (IsRun net j j) (t .0) (closed-runs net n j) (closed-are net n j) (t .1)) (t .2)

@@ -78,3 +78,94 @@ fn extend_column<W: Weight>(
         cells[place] = cells[place].choose(chained(weights[l], behind[link.to as usize]));
     }
 }
+
+// Whether column `j` of the cells is what `behind` holds.
+fn is_settled<W: Weight>(n: usize, j: usize, cells: &[W], behind: &[W]) -> bool
+    requires few { ⌜ n ≤ 32 ⌝ }
+    requires inside { ⌜ j < n ⌝ }
+    requires square { ⌜ length (now cells) ≡ n * n ⌝ }
+    requires side { ⌜ length (now behind) ≡ n ⌝ }
+    ensures { λ r. ⌜ Decides r ((i : ℕ) → i < n → column-of kind meaning n j (now (cells .entry)) i ≡ at kind meaning (now (behind .entry)) i) ⌝ }
+{
+    for (i, old) in behind.iter().enumerate() {
+        if !cells[i * n + j].same(*old) {
+            return false;
+        }
+    }
+    true
+}
+
+// Copies column `j` of the cells into `behind`.
+fn copy_column<W: Weight>(n: usize, j: usize, cells: &[W], behind: &mut [W])
+    requires few { ⌜ n ≤ 32 ⌝ }
+    requires inside { ⌜ j < n ⌝ }
+    requires square { ⌜ length (now cells) ≡ n * n ⌝ }
+    requires side { ⌜ length (now behind) ≡ n ⌝ }
+    ensures { λ _. ⌜ ((i : ℕ) → i < n → at kind meaning (now (behind .exit)) i ≡ column-of kind meaning n j (now (cells .entry)) i) ⌝ }
+{
+    for i in 0..n {
+        behind[i] = cells[i * n + j];
+    }
+}
+
+// Writes the cells of column `j`, and leaves them in `spare` too. It ends early where a round changes nothing.
+fn fill_column<W: Weight>(
+    n: usize,
+    j: usize,
+    links: &[Link],
+    weights: &[W],
+    cells: &mut [W],
+    spare: &mut [W],
+)
+    requires few { ⌜ n ≤ 32 ⌝ }
+    requires inside { ⌜ j < n ⌝ }
+    requires square { ⌜ length (now cells) ≡ n * n ⌝ }
+    requires side { ⌜ length (now spare) ≡ n ⌝ }
+    requires fit { ⌜ Fit kind meaning n (now links) (now weights) ⌝ }
+    ensures column { λ _. ⌜ ((i : ℕ) → i < n → column-of kind meaning n j (now (cells .exit)) i ≡ cell kind (net-of (now (links .entry))) (at kind meaning (now (weights .entry))) n i j) ⌝ }
+    ensures spare { λ _. ⌜ ((i : ℕ) → i < n → at kind meaning (now (spare .exit)) i ≡ cell kind (net-of (now (links .entry))) (at kind meaning (now (weights .entry))) n i j) ⌝ }
+    ensures others { λ _. ⌜ OthersKept kind meaning n j (now (cells .entry)) (now (cells .exit)) ⌝ }
+{
+    clear(spare);
+    for round in 0..n {
+        seed_column(n, j, cells);
+        extend_column(n, j, links, weights, spare, cells);
+        if is_settled(n, j, cells, spare) {
+            return;
+        }
+        copy_column(n, j, cells, spare);
+    }
+}
+
+// The choice over the links from `j`, each chained with what stands for its second event.
+fn closed_choice<W: Weight>(j: usize, links: &[Link], weights: &[W], behind: &[W]) -> W
+    requires fit { ⌜ Fit kind meaning (length (now behind)) (now links) (now weights) ⌝ }
+    requires room { ⌜ All (λ w. kind .span (meaning w) ≤ 31) (now behind) ⌝ }
+    ensures { λ r. ⌜ meaning r ≡ extend kind (net-of (now (links .entry))) (at kind meaning (now (weights .entry))) (at kind meaning (now (behind .entry))) j (net-of (now (links .entry)) .links) ⌝ }
+{
+    let mut best = W::none();
+    for (l, link) in links.iter().enumerate() {
+        if link.from as usize == j {
+            best = best.choose(chained(weights[l], behind[link.to as usize]));
+        }
+    }
+    best
+}
+
+// Whether a weight gains.
+fn does_gain<W: Weight>(w: W) -> bool
+    ensures { λ r. ⌜ r ≡ gains kind (meaning w) ⌝ }
+{
+    !w.choose(W::start()).same(W::start())
+}
+
+// Whether a closed run of 1 to n links from `j` gains, by the cells of column `j`.
+fn closed_run_gains<W: Weight>(n: usize, j: usize, links: &[Link], weights: &[W], column: &[W]) -> bool
+    requires few { ⌜ n ≤ 32 ⌝ }
+    requires side { ⌜ length (now column) ≡ n ⌝ }
+    requires fit { ⌜ Fit kind meaning n (now links) (now weights) ⌝ }
+    requires cells { ⌜ ((i : ℕ) → i < n → at kind meaning (now column) i ≡ cell kind (net-of (now links)) (at kind meaning (now weights)) n i j) ⌝ }
+    ensures { λ r. ⌜ r ≡ some-gains kind (at kind meaning (now (weights .entry))) (closed-runs (net-of (now (links .entry))) n j) ⌝ }
+{
+    does_gain(closed_choice(j, links, weights, column))
+}

@@ -1,12 +1,12 @@
 use mathlib.Core.Path.{sym, ap, _∙_}
-use Prim.Native.Nat.{_+_, _*_, _<_, _≤_}
+use Prim.Native.Nat.{_+_, _*_, _<_}
 use native.Mathlib.Omega.{arith}
 use borrow.Author.Needs.{needs}
 use lib.ListN.{length, getD}
 use Rattle.runs.specs.Links.{no-link, at}
 use Rattle.runs.specs.Rounds.{column-of}
-use Rattle.runs.proofs.Columns.{link-place, link-end, all-read, others-more}
-use Rattle.runs.proofs.Extending.{rest-all, column-step}
+use Rattle.runs.proofs.Columns.{link-place, link-end, others-more}
+use Rattle.runs.proofs.Extending.{rest-all, chain-room, column-step}
 use Rattle.runs.proofs.table.extend_column.Needs as need
 
 pub index-cells-place : need.index-cells-place
@@ -22,13 +22,7 @@ pub offset-behind-link : need.offset-behind-link
 offset-behind-link g c = let inside : getD (c .args .links .now) (c .loop-l .l) no-link .to < length (c .args .behind .now) = index-behind-link g c in omega arith
 
 pub chained-requires : need.chained-requires
-chained-requires g c κs =
-    let W = g .W·Weight in
-    let within : c .loop-l .l < length (c .args .weights .now) = omega (arith, c .pre .fit .paired) in
-    let end = link-end (c .args .n) (c .loop-l .l) (length (c .args .behind .now)) (c .args .links .now) (c .pre .side) (c .loop-l-test .taken) (c .pre .fit .within) in
-    let one = all-read (λ w. W .kind .span (W .meaning w) ≤ 1) (c .args .weights .now) (c .loop-l .l) (c .index-weights-l .result) within (c .index-weights-l .is) (c .pre .fit .light) in
-    let more = all-read (λ w. W .kind .span (W .meaning w) ≤ 31) (c .args .behind .now) _ (c .index-behind-link .result) end (c .index-behind-link .is) (c .pre .room) in
-    omega arith
+chained-requires g c κs = chain-room (g .W·Weight .kind) (g .W·Weight .meaning) (c .args .n) (c .loop-l .l) (c .args .links .now) (c .args .weights .now) (c .args .behind .now) (c .index-weights-l .result) (c .index-behind-link .result) (c .pre .fit) (c .pre .side) (c .pre .room) (c .loop-l-test .taken) (c .index-weights-l .is) (c .index-behind-link .is)
 
 pub index-cells-place-in-loop-l : need.index-cells-place-in-loop-l
 index-cells-place-in-loop-l g c = link-place (c .args .n) (c .args .j) (c .loop-l .l) (length (c .loop-l .cells)) (c .args .links .now) (c .pre .inside) (c .loop-l .kept .cells ∙ c .pre .square) (c .loop-l-test .taken) (c .pre .fit .within)
