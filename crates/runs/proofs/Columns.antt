@@ -90,3 +90,11 @@ module _ (K : Kind) {X : Type 0} (m : X → K .carrier) where
     pub others-more : (old xs : List X) (i : ℕ) (w : X) → OthersKept K m n j old xs → OthersKept K m n j old (set xs (i * n + j) w)
     others-more old xs i w kept r q hr hq ne =
         at-set-other xs (i * n + j) (r * n + q) w (λ same. ne (column-same n r q i j hq hj same)) ∙ kept r q hr hq ne
+
+    -- one more column is written, and the ones before it are kept
+    pub columns-more : (old new : List X) (f : ℕ → ℕ → K .carrier) → ((i : ℕ) → i < n → column-of K m n j new i ≡ f i j) → OthersKept K m n j old new
+        → ((r q : ℕ) → r < n → q < j → column-of K m n q old r ≡ f r q) → (r q : ℕ) → r < n → q < j + 1 → column-of K m n q new r ≡ f r q
+    columns-more old new f here kept before r q hr hq = elim (ℕ-discrete q j) [
+      | yes e ↦ subst (λ y. column-of K m n y new r ≡ f r y) (sym e) (here r hr)
+      | no ne ↦ kept r q hr (omega arith) ne ∙ before r q hr (omega arith)
+    ]

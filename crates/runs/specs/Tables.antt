@@ -1,7 +1,7 @@
 -- The table of runs: when it is refused and with which fault, what cells and spare cells then hold, and what that says of
 -- circuits and of runs of any length.
 use mathlib.Core.Path.{_≡_}
-use mathlib.Core.Bool.{Bool, true, cond, _&&_}
+use mathlib.Core.Bool.{Bool, true, false, cond, _&&_}
 use mathlib.Core.List.{List, [], _∷_}
 use mathlib.Core.Logic.{_↔_}
 use Prim.Native.Nat.{ℕ, _+_, _*_, _<_, _≤_}
@@ -19,6 +19,7 @@ use Rattle.runs.specs.Nets.{Net}
 use Rattle.runs.specs.Runs.{cell}
 use Rattle.runs.specs.Gaining.{gaining-event, SomeCircuitGains, NoCircuitGains, LeastAbove}
 use Rattle.runs.specs.Links.{net-of, at}
+use Rattle.runs.specs.Faults.{report-of}
 
 -- whether every element of a list passes a test
 abbrev pub every : {X : Type 0} → (X → Bool) → List X → Bool
@@ -84,6 +85,25 @@ module _ (K : Kind) {X : Type 0} (m : X → K .carrier) (n : ℕ) (ls : List Lin
   SpareAfter after None = (t : ℕ) → at K m after t ≡ K .none
   SpareAfter after (Some fault) = Left K m spare after fault
 
+  -- what a call answers and leaves, by its fault
+  pub record Tabled (fault : Option TableFault) (cells-after spare-after : List X) (r : Result (Unit {0}) TableFault) : Type 0 where
+    pub reply : r ≡ reply-of fault
+    pub cells-hold : CellsAfter cells-after fault
+    pub spare-holds : SpareAfter spare-after fault
+
+  -- the causes of each fault
+  abbrev pub Cause : TableFault → Type 0
+  Cause EventCount = in-range n ≡ false
+  Cause Event = events-below n ls ≡ false
+  Cause Length = right-lengths n ls ws cells spare ≡ false
+  Cause Span = spans-at-most-one K m ws ≡ false
+  Cause (Gain event) = gaining-event K (net-of ls) (at K m ws) n ≡ Some event
+
+  -- of several causes the one with the lowest number is answered, and without a cause nothing is refused
+  abbrev pub LowestCause : Result (Unit {0}) TableFault → Type 0
+  LowestCause (Ok done) = (fault : TableFault) → Cause fault → ⊥
+  LowestCause (Err fault) = Cause fault × ((other : TableFault) → Cause other → report-of fault .number ≤ report-of other .number)
+
   -- the call is refused for a gain
   abbrev pub RefusedForGain : Result (Unit {0}) TableFault → Type 0
   RefusedForGain r = (event : ℕ) × (r ≡ Err (Gain event))
@@ -91,6 +111,7 @@ module _ (K : Kind) {X : Type 0} (m : X → K .carrier) (n : ℕ) (ls : List Lin
   -- where no lower cause holds, the table is refused exactly when some circuit gains, which is exactly when not every
   -- circuit is at most start; and each cell of an accepted one is the least weight that no run, of any length, exceeds
   pub record TableLaw (after : List X) (r : Result (Unit {0}) TableFault) : Type 0 where
+    pub lowest-cause : LowestCause r
     pub refused-so : early-fault None ≡ None → RefusedForGain r ↔ SomeCircuitGains K (net-of ls) (at K m ws)
     pub accepted-so : early-fault None ≡ None → (r ≡ Ok tt) ↔ NoCircuitGains K (net-of ls) (at K m ws)
     pub least : r ≡ Ok tt → (i j : ℕ) → i < n → j < n → LeastAbove K (net-of ls) (at K m ws) i j (at K m after (i * n + j))

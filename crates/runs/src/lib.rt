@@ -5,7 +5,7 @@ use faults::Layer;
 use faults::Report;
 
 mod table;
-//pub use table::table_of_runs;
+pub use table::table_of_runs;
 
 // A link from one event to another.
 #[derive(Clone, Copy, PartialEq, Eq, Debug)]

@@ -1,6 +1,5 @@
 // The table of runs, column by column: one text for every kind of weight.
 ghost use mathlib.Core.Path.{_≡_};
-ghost use mathlib.Core.Bool.{true};
 ghost use Prim.Native.Nat.{ℕ, _+_, _*_, _<_, _≤_};
 ghost use lib.ListN.{length};
 ghost use Rattle.std.specs.Orderings.{Decides};
@@ -8,6 +7,7 @@ ghost use Rattle.std.specs.shelf.Lists.{All};
 ghost use Rattle.weights.specs.Kinds.{gains};
 ghost use Rattle.runs.specs.Runs.{cell, closed-runs};
 ghost use Rattle.runs.specs.Gaining.{some-gains, gaining-event};
+ghost use Rattle.runs.specs.Tables.{events-below, spans-at-most-one, gain-fault, table-fault, Tabled, TableLaw};
 ghost use Rattle.runs.specs.Links.{net-of, at};
 ghost use Rattle.runs.specs.Rounds.{seed, extend, Fit, column-of, OthersKept};
 use crate::Link;
@@ -168,4 +168,98 @@ fn closed_run_gains<W: Weight>(n: usize, j: usize, links: &[Link], weights: &[W]
     ensures { λ r. ⌜ r ≡ some-gains kind (at kind meaning (now (weights .entry))) (closed-runs (net-of (now (links .entry))) n j) ⌝ }
 {
     does_gain(closed_choice(j, links, weights, column))
+}
+
+// The table, where all that is handed in is in order.
+fn fill_table<W: Weight>(
+    n: usize,
+    links: &[Link],
+    weights: &[W],
+    cells: &mut [W],
+    spare: &mut [W],
+) -> Result<(), TableFault>
+    requires few { ⌜ n ≤ 32 ⌝ }
+    requires square { ⌜ length (now cells) ≡ n * n ⌝ }
+    requires side { ⌜ length (now spare) ≡ n ⌝ }
+    requires fit { ⌜ Fit kind meaning n (now links) (now weights) ⌝ }
+    ensures { λ r. ⌜ Tabled kind meaning n (now (links .entry)) (now (weights .entry)) (now (cells .entry)) (now (spare .entry)) (gain-fault (gaining-event kind (net-of (now (links .entry))) (at kind meaning (now (weights .entry))) n)) (now (cells .exit)) (now (spare .exit)) r ⌝ }
+{
+    for j in 0..n {
+        fill_column(n, j, links, weights, cells, spare);
+        if closed_run_gains(n, j, links, weights, spare) {
+            clear(cells);
+            clear(spare);
+            return Err(TableFault::Gain(j));
+        }
+    }
+    clear(spare);
+    Ok(())
+}
+
+// Whether every link goes between events below n.
+fn events_below(n: usize, links: &[Link]) -> bool
+    ensures { λ r. ⌜ r ≡ events-below n (now (links .entry)) ⌝ }
+{
+    for link in links {
+        if link.from as usize >= n || link.to as usize >= n {
+            return false;
+        }
+    }
+    true
+}
+
+// Whether every weight spans at most 1.
+fn spans_at_most_one<W: Weight>(weights: &[W]) -> bool
+    ensures { λ r. ⌜ r ≡ spans-at-most-one kind meaning (now (weights .entry)) ⌝ }
+{
+    for w in weights {
+        if w.span() > 1 {
+            return false;
+        }
+    }
+    true
+}
+
+// The table, or the first cause of a refusal.
+fn checked_table<W: Weight>(
+    n: usize,
+    links: &[Link],
+    weights: &[W],
+    cells: &mut [W],
+    spare: &mut [W],
+) -> Result<(), TableFault>
+    ensures { λ r. ⌜ Tabled kind meaning n (now (links .entry)) (now (weights .entry)) (now (cells .entry)) (now (spare .entry)) (table-fault kind meaning n (now (links .entry)) (now (weights .entry)) (now (cells .entry)) (now (spare .entry))) (now (cells .exit)) (now (spare .exit)) r ⌝ }
+{
+    if n < 1 || n > 32 {
+        return Err(TableFault::EventCount);
+    }
+    if !events_below(n, links) {
+        return Err(TableFault::Event);
+    }
+    if links.len() > 128
+        || links.len() != weights.len()
+        || cells.len() != n * n
+        || spare.len() != n
+    {
+        return Err(TableFault::Length);
+    }
+    if !spans_at_most_one(weights) {
+        return Err(TableFault::Span);
+    }
+    fill_table(n, links, weights, cells, spare)
+}
+
+// For each two events the choice over the weights of all runs of fewer than `n` links between them: the least weight that no
+// run between them exceeds.
+pub fn table_of_runs<W: Weight>(
+    n: usize,
+    links: &[Link],
+    weights: &[W],
+    cells: &mut [W],
+    spare: &mut [W],
+) -> Result<(), TableFault>
+    ensures table { λ r. ⌜ Tabled kind meaning n (now (links .entry)) (now (weights .entry)) (now (cells .entry)) (now (spare .entry)) (table-fault kind meaning n (now (links .entry)) (now (weights .entry)) (now (cells .entry)) (now (spare .entry))) (now (cells .exit)) (now (spare .exit)) r ⌝ }
+    ensures law { λ r. ⌜ TableLaw kind meaning n (now (links .entry)) (now (weights .entry)) (now (cells .entry)) (now (spare .entry)) (now (cells .exit)) r ⌝ }
+{
+    checked_table(n, links, weights, cells, spare)
 }
