@@ -97,9 +97,9 @@ module _ (K : Kind) (L : Laws K) {X : Type 0} (m : X → K .carrier) (n j : ℕ)
       let end : to < length behind = link-end n k (length behind) ls side h (fit .within) in
       let inside : k < length ws = omega (arith, fit .paired) in
       let new-is : m new ≡ K .choice (column from) (K .chaining (w k) (x to)) =
-          chosen ∙ ap (λ y. K .choice y (K .chaining (m weight) (m back))) (sym (at-read K m cells (from * n + j) old place old-is))
-          ∙ ap (λ y. K .choice (column from) (K .chaining y (m back))) (sym (at-read K m ws k weight inside weight-is))
-          ∙ ap (λ y. K .choice (column from) (K .chaining (w k) y)) (sym (at-read K m behind to back end back-is)) in
+      chosen ∙ ap (λ y. K .choice y (K .chaining (m weight) (m back))) (sym (at-read K m cells (from * n + j) old place old-is))
+      ∙ ap (λ y. K .choice (column from) (K .chaining y (m back))) (sym (at-read K m ws k weight inside weight-is))
+      ∙ ap (λ y. K .choice (column from) (K .chaining (w k) y)) (sym (at-read K m behind to back end back-is)) in
       let here : column-of K m n j (set cells (from * n + j) new) from ≡ K .choice (column from) (K .chaining (w k) (x to)) = column-set-same K m n j hj cells from new below square ∙ new-is in
       link-more K L ls w x i k (column i) (column-of K m n j (set cells (from * n + j) new) i) h
       (λ e. subst (λ y. column-of K m n j (set cells (from * n + j) new) y ≡ K .choice (column y) (K .chaining (w k) (x to))) e here)

@@ -7,5 +7,5 @@ pub mod Cells
 pub mod Theorem
 pub mod Columns
 pub mod Extending
-pub mod Tests
+pub mod Searches
 pub mod Tables

@@ -25,7 +25,7 @@ use Rattle.runs.specs.Faults.{report-of}
 use Rattle.runs.specs.Rounds.{Fit}
 use Rattle.runs.specs.Tables.{in-range, events-below, right-lengths, spans-at-most-one, unless, gain-fault, reply-of, early-fault, table-fault, CellsAfter, SpareAfter, Tabled, Cause, LowestCause, RefusedForGain, TableLaw}
 use Rattle.runs.proofs.Extending.{net-within}
-use Rattle.runs.proofs.Tests.{decides-leb, every-says, lowest-passes, none-passes}
+use Rattle.runs.proofs.Searches.{decides-leb, every-says, lowest-passes, none-passes}
 use Rattle.runs.proofs.Theorem.{gaining-circuit, no-gaining-circuit, none-gains-closed, least-above}
 
 unless-none : (b : Bool) (f : TableFault) (o : Option TableFault) → unless b f o ≡ None → (b ≡ true) × (o ≡ None)
@@ -188,15 +188,13 @@ module _ (K : Kind) {X : Type 0} (m : X → K .carrier) (n : ℕ) (ls : List Lin
         lowest-cause = subst (LowestCause K m n ls ws cells spare) (sym (t .reply)) (causes range below lengths light gain refl refl refl refl refl);
         refused-so = λ e.
             let c : Clear None = clear-from None e in
-            let is : r ≡ reply-of (gain-fault gain) = t .reply ∙ ap reply-of (only-gain c) in
-            (
+            let is : r ≡ reply-of (gain-fault gain) = t .reply ∙ ap reply-of (only-gain c) in (
               λ refused. some-circuit (refused .0) (gain-event gain (refused .0) (sym is ∙ refused .1)),
               λ some. let found = some-gain (c .no-event) some in (found .0, is ∙ ap (λ o. reply-of (gain-fault o)) (found .1)),
             );
         accepted-so = λ e.
             let c : Clear None = clear-from None e in
-            let is : r ≡ reply-of (gain-fault gain) = t .reply ∙ ap reply-of (only-gain c) in
-            (
+            let is : r ≡ reply-of (gain-fault gain) = t .reply ∙ ap reply-of (only-gain c) in (
               λ ok. no-circuit (c .no-event) (gain-none gain (reply-none (gain-fault gain) (sym is ∙ ok))),
               λ none. is ∙ ap (λ o. reply-of (gain-fault o)) (no-gain none),
             );

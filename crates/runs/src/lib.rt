@@ -5,6 +5,7 @@ use faults::Layer;
 use faults::Report;
 
 mod table;
+
 pub use table::table_of_runs;
 
 // A link from one event to another.
@@ -43,3 +44,6 @@ impl TableFault {
         }
     }
 }
+
+#[cfg(test)]
+mod tests;

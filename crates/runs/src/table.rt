@@ -160,7 +160,13 @@ fn does_gain<W: Weight>(w: W) -> bool
 }
 
 // Whether a closed run of 1 to n links from `j` gains, by the cells of column `j`.
-fn closed_run_gains<W: Weight>(n: usize, j: usize, links: &[Link], weights: &[W], column: &[W]) -> bool
+fn closed_run_gains<W: Weight>(
+    n: usize,
+    j: usize,
+    links: &[Link],
+    weights: &[W],
+    column: &[W],
+) -> bool
     requires few { ⌜ n ≤ 32 ⌝ }
     requires side { ⌜ length (now column) ≡ n ⌝ }
     requires fit { ⌜ Fit kind meaning n (now links) (now weights) ⌝ }
@@ -192,7 +198,7 @@ fn fill_table<W: Weight>(
             return Err(TableFault::Gain(j));
         }
     }
-    clear(spare);
+    clear(spare); // they end as none
     Ok(())
 }
 

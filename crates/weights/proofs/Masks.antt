@@ -50,5 +50,5 @@ mask-same : (a b : ℕ) → a < 128 → b < 128 → days-of a ≡ days-of b → 
 mask-same a b p q e = by-bits a b p q (day-same a b monday e) (day-same a b tuesday e) (day-same a b wednesday e) (day-same a b thursday e) (day-same a b friday e) (day-same a b saturday e) (day-same a b sunday e)
 
 -- two masks are equal exactly when their days are
-pub mask-equal : (a b : ℕ) → a < 128 → b < 128 → eqb a b ≡ days-kind .equal (days-of a) (days-of b)
-mask-equal a b p q = same-from-decides (eqb a b) (days-kind .equal (days-of a) (days-of b)) (decides-like (eqb a b) (ap days-of) (mask-same a b p q) (decides-eqb a b)) (days-laws .equal-says (days-of a) (days-of b))
+pub mask-equal : (a b : ℕ) → a < 128 → b < 128 → eqb b a ≡ days-kind .equal (days-of a) (days-of b)
+mask-equal a b p q = same-from-decides (eqb b a) (days-kind .equal (days-of a) (days-of b)) (decides-like (eqb b a) (λ e. ap days-of (sym e)) (λ e. sym (mask-same a b p q e)) (decides-eqb b a)) (days-laws .equal-says (days-of a) (days-of b))

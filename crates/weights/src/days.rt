@@ -58,7 +58,7 @@ pub impl Weight for Days as DaysWeight {
     }
 
     fn same(self, other: Days) -> bool {
-        self.mask == other.mask
+        other.mask == self.mask
     }
 
     fn span(self) -> u64 {

@@ -19,11 +19,11 @@ pub impl Weight for Seconds as SecondsWeight {
     ghost meaning = { λ seconds. seconds };
 
     fn none() -> Seconds {
-        Seconds::Absent
+        Self::Absent
     }
 
     fn start() -> Seconds {
-        Seconds::Of(0)
+        Self::Of(0)
     }
 
     fn choose(self, other: Seconds) -> Seconds {

@@ -34,13 +34,12 @@ pub loop-l-again : need.loop-l-again
 loop-l-again g c =
     let K = g .W·Weight .kind in
     let m = g .W·Weight .meaning in
-    let from = getD (c .args .links .now) (c .loop-l .l) no-link .from in
-    (
+    let from = getD (c .args .links .now) (c .loop-l .l) no-link .from in (
       λ i h. column-step K (g .W·Weight·met .lawful) m (c .args .n) (c .args .j) (c .pre .inside) (c .args .links .now) (c .args .weights .now) (c .args .behind .now) (c .pre .fit) (c .pre .side)
           (c .loop-l .cells) (c .loop-l .l) (c .index-cells-place .result) (c .index-weights-l .result) (c .index-behind-link .result) (c .choose .result) (c .loop-l-test .taken)
           (c .loop-l .kept .cells ∙ c .pre .square) (c .index-cells-place .is) (c .index-weights-l .is) (c .index-behind-link .is)
           (c .choose .ensures ∙ ap (K .choice (m (c .index-cells-place .result))) (c .chained .ensures)) i
-      ∙ c .loop-l .inv .0 i h,
+          ∙ c .loop-l .inv .0 i h,
       others-more K m (c .args .n) (c .args .j) (c .pre .inside) (c .args .cells .now) (c .loop-l .cells) from (c .choose .result) (c .loop-l .inv .1),
     )
 

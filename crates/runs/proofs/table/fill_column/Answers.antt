@@ -45,8 +45,7 @@ loop-round-again g c =
     let K = g .W·Weight .kind in
     let m = g .W·Weight .meaning in
     let b = net-within (c .args .n) (c .args .links .now) (c .pre .fit .within) in
-    let next = next-column K (g .W·Weight·met .lawful) (net-of (c .args .links .now)) (at K m (c .args .weights .now)) (c .args .n) b (c .loop-round .round) (c .args .j) (at K m (c .loop-round .spare)) (column-of K m (c .args .n) (c .args .j) (c .seed-column .last .cells)) (column-of K m (c .args .n) (c .args .j) (c .extend-column .last .cells)) (c .loop-round .inv .0) (c .seed-column .ensures .column) (c .extend-column .ensures .column) in
-    (
+    let next = next-column K (g .W·Weight·met .lawful) (net-of (c .args .links .now)) (at K m (c .args .weights .now)) (c .args .n) b (c .loop-round .round) (c .args .j) (at K m (c .loop-round .spare)) (column-of K m (c .args .n) (c .args .j) (c .seed-column .last .cells)) (column-of K m (c .args .n) (c .args .j) (c .extend-column .last .cells)) (c .loop-round .inv .0) (c .seed-column .ensures .column) (c .extend-column .ensures .column) in (
       λ i h. c .copy-column .ensures i h ∙ next i h,
       λ i h l. next i h,
       λ r q hr hq ne. c .extend-column .ensures .others r q hr hq ne ∙ (c .seed-column .ensures .others r q hr hq ne ∙ c .loop-round .inv .2 r q hr hq ne),

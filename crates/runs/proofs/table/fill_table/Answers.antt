@@ -5,7 +5,7 @@ use Rattle.runs.specs.Runs.{cell, closed-runs}
 use Rattle.runs.specs.Gaining.{lowest, some-gains}
 use Rattle.runs.specs.Links.{net-of, at}
 use Rattle.runs.proofs.Columns.{columns-more}
-use Rattle.runs.proofs.Tests.{lowest-passed, lowest-found}
+use Rattle.runs.proofs.Searches.{lowest-passed, lowest-found}
 use Rattle.runs.proofs.Tables.{tabled-gain, tabled-full}
 use Rattle.runs.proofs.table.fill_table.Needs as need
 
@@ -17,8 +17,7 @@ loop-j-again g c =
     let K = g .W·Weight .kind in
     let m = g .W·Weight .meaning in
     let net = net-of (c .args .links .now) in
-    let w = at K m (c .args .weights .now) in
-    (
+    let w = at K m (c .args .weights .now) in (
       columns-more K m (c .args .n) (c .loop-j .j) (c .loop-j-test .taken) (c .loop-j .cells) (c .fill-column .last .cells) (cell K net w (c .args .n)) (c .fill-column .ensures .column) (c .fill-column .ensures .others) (c .loop-j .inv .0),
       lowest-passed (λ j. some-gains K w (closed-runs net (c .args .n) j)) (c .loop-j .j) (c .loop-j .inv .1) (sym (c .closed-run-gains .ensures) ∙ c .if-closed-run-gains .left),
     )

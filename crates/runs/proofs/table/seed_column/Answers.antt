@@ -16,8 +16,7 @@ offset-cells-i g c = let inside : c .loop-i .i * c .args .n + c .args .j < lengt
 pub loop-i-again : need.loop-i-again
 loop-i-again g c =
     let K = g .W·Weight .kind in
-    let m = g .W·Weight .meaning in
-    (
+    let m = g .W·Weight .meaning in (
       column-more K m (c .args .n) (c .args .j) (c .pre .inside) (c .loop-i .cells) (c .loop-i .i) (c .empty-run .result) (λ t. seed K t (c .args .j)) (c .loop-i-test .taken)
           (c .loop-i .kept .cells ∙ c .pre .square)
           (c .empty-run .ensures)

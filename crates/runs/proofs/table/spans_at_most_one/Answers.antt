@@ -3,7 +3,7 @@ use mathlib.Core.Bool.{true, false}
 use native.Mathlib.Omega.{arith}
 use lib.Dec.{leb}
 use Rattle.std.proofs.shelf.Ways.{tells}
-use Rattle.runs.proofs.Tests.{every-on, every-off, every-end}
+use Rattle.runs.proofs.Searches.{every-on, every-off, every-end}
 use Rattle.runs.proofs.table.spans_at_most_one.Needs as need
 
 pub loop-w-again : need.loop-w-again
