@@ -19,6 +19,9 @@ use Rattle.std.specs.declared.option.Option.the-variants.{Some, None}
 use Rattle.runs.specs.Gaining.{found-or, lowest}
 use Rattle.runs.specs.Tables.{every}
 
+pub some-not-none : {X : Type 0} {x : X} → Some x ≡ None → ⊥
+some-not-none e = let z : _≡_ {A = ℕ} 0 1 = cc in omega arith
+
 pub decides-leb : (a b : ℕ) → Decides (leb a b) (a ≤ b)
 decides-leb a b = ⊎-elim (λ t. (λ _. t .1, λ _. t .0)) (λ f. (λ e. absurd (clash (sym (f .0) ∙ e)), λ h. absurd (let lt = f .1 in omega arith))) (leb-tells a b)
 

@@ -62,16 +62,6 @@ module _ (K : Kind) {X : Type 0} (m : X → K .carrier) (n : ℕ) (ls : List Lin
   }
 
   module _ (cells spare cells′ spare′ : List X) where
-    -- the loop stopped at the first event with a closed run that gains, and cleared all
-    pub tabled-gain : (j : ℕ) → gaining-event K net w n ≡ Some j → ((t : ℕ) → at K m cells′ t ≡ K .none) → ((t : ℕ) → at K m spare′ t ≡ K .none)
-        → Tabled K m n ls ws cells spare (gain-fault (gaining-event K net w n)) cells′ spare′ (Err (Gain j))
-    tabled-gain j found cleared spare-cleared = subst (λ o. Tabled K m n ls ws cells spare (gain-fault o) cells′ spare′ (Err (Gain j))) (sym found) (record { reply = refl; cells-hold = cleared; spare-holds = spare-cleared })
-
-    -- the loop filled all columns
-    pub tabled-full : gaining-event K net w n ≡ None → ((i j : ℕ) → i < n → j < n → at K m cells′ (i * n + j) ≡ cell K net w n i j) → ((t : ℕ) → at K m spare′ t ≡ K .none)
-        → Tabled K m n ls ws cells spare (gain-fault (gaining-event K net w n)) cells′ spare′ (Ok tt)
-    tabled-full none filled spare-cleared = subst (λ o. Tabled K m n ls ws cells spare (gain-fault o) cells′ spare′ (Ok tt)) (sym none) (record { reply = refl; cells-hold = filled; spare-holds = spare-cleared })
-
     module _ (L : Laws K) (I : Idempotent K) where
       abbrev range : Bool
       range = in-range n

@@ -30,9 +30,13 @@ every passes (x ∷ xs) = passes x && every passes xs
 abbrev pub in-range : ℕ → Bool
 in-range n = leb 1 n && leb n 32
 
--- every link goes between events below n
+-- a link goes between events below n
+abbrev pub link-below : ℕ → Link → Bool
+link-below n l = ltb (l .from) n && ltb (l .to) n
+
+-- every link does
 abbrev pub events-below : ℕ → List Link → Bool
-events-below n ls = every (λ l. ltb (l .from) n && ltb (l .to) n) ls
+events-below n ls = every (link-below n) ls
 
 -- at most 128 links, as many weights, n × n cells and n spare cells
 abbrev pub right-lengths : {X : Type 0} → ℕ → List Link → List X → List X → List X → Bool

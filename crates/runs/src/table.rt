@@ -1,18 +1,25 @@
 // The table of runs, column by column: one text for every kind of weight.
 ghost use mathlib.Core.Path.{_≡_};
 ghost use Prim.Native.Nat.{ℕ, _+_, _*_, _<_, _≤_};
+ghost use lib.Dec.{leb};
 ghost use lib.ListN.{length};
 ghost use Rattle.std.specs.Orderings.{Decides};
+ghost use Rattle.std.specs.declared.option.Option.the-variants.{None};
 ghost use Rattle.std.specs.shelf.Lists.{All};
 ghost use Rattle.weights.specs.Kinds.{gains};
 ghost use Rattle.runs.specs.Runs.{cell, closed-runs};
 ghost use Rattle.runs.specs.Gaining.{some-gains, gaining-event};
-ghost use Rattle.runs.specs.Tables.{events-below, spans-at-most-one, gain-fault, table-fault, Tabled, TableLaw};
+ghost use Rattle.runs.specs.Tables.{link-below, events-below, spans-at-most-one, gain-fault, table-fault, Tabled, TableLaw};
 ghost use Rattle.runs.specs.Links.{net-of, at};
 ghost use Rattle.runs.specs.Rounds.{seed, extend, Fit, column-of, OthersKept};
 use crate::Link;
 use crate::TableFault;
 use weights::Weight;
+
+// A table has at most so many events and links.
+const MAX_EVENTS: usize = 32;
+
+const MAX_LINKS: usize = 128;
 
 // The chaining of two weights whose spans leave room.
 fn chained<W: Weight>(a: W, b: W) -> W
@@ -108,9 +115,11 @@ fn copy_column<W: Weight>(n: usize, j: usize, cells: &[W], behind: &mut [W])
     }
 }
 
-// Writes the cells of column `j`, and leaves them in `spare` too. It ends early where a round changes nothing.
+// Writes into column `j` of the cells, and into `spare` too, the choice over the runs of fewer than so many links as there are
+// rounds. It ends early where a round changes nothing.
 fn fill_column<W: Weight>(
     n: usize,
+    rounds: usize,
     j: usize,
     links: &[Link],
     weights: &[W],
@@ -118,16 +127,18 @@ fn fill_column<W: Weight>(
     spare: &mut [W],
 )
     requires few { ⌜ n ≤ 32 ⌝ }
+    requires some { ⌜ 0 < rounds ⌝ }
+    requires short { ⌜ rounds ≤ 32 ⌝ }
     requires inside { ⌜ j < n ⌝ }
     requires square { ⌜ length (now cells) ≡ n * n ⌝ }
     requires side { ⌜ length (now spare) ≡ n ⌝ }
     requires fit { ⌜ Fit kind meaning n (now links) (now weights) ⌝ }
-    ensures column { λ _. ⌜ ((i : ℕ) → i < n → column-of kind meaning n j (now (cells .exit)) i ≡ cell kind (net-of (now (links .entry))) (at kind meaning (now (weights .entry))) n i j) ⌝ }
-    ensures spare { λ _. ⌜ ((i : ℕ) → i < n → at kind meaning (now (spare .exit)) i ≡ cell kind (net-of (now (links .entry))) (at kind meaning (now (weights .entry))) n i j) ⌝ }
+    ensures column { λ _. ⌜ ((i : ℕ) → i < n → column-of kind meaning n j (now (cells .exit)) i ≡ cell kind (net-of (now (links .entry))) (at kind meaning (now (weights .entry))) rounds i j) ⌝ }
+    ensures spare { λ _. ⌜ ((i : ℕ) → i < n → at kind meaning (now (spare .exit)) i ≡ cell kind (net-of (now (links .entry))) (at kind meaning (now (weights .entry))) rounds i j) ⌝ }
     ensures others { λ _. ⌜ OthersKept kind meaning n j (now (cells .entry)) (now (cells .exit)) ⌝ }
 {
     clear(spare);
-    for round in 0..n {
+    for round in 0..rounds {
         seed_column(n, j, cells);
         extend_column(n, j, links, weights, spare, cells);
         if is_settled(n, j, cells, spare) {
@@ -176,6 +187,30 @@ fn closed_run_gains<W: Weight>(
     does_gain(closed_choice(j, links, weights, column))
 }
 
+// Fills column after column, up to the first event from which a closed run of 1 to n links gains.
+fn fill_columns<W: Weight>(
+    n: usize,
+    links: &[Link],
+    weights: &[W],
+    cells: &mut [W],
+    spare: &mut [W],
+) -> Option<usize>
+    requires few { ⌜ n ≤ 32 ⌝ }
+    requires square { ⌜ length (now cells) ≡ n * n ⌝ }
+    requires side { ⌜ length (now spare) ≡ n ⌝ }
+    requires fit { ⌜ Fit kind meaning n (now links) (now weights) ⌝ }
+    ensures gain { λ r. ⌜ r ≡ gaining-event kind (net-of (now (links .entry))) (at kind meaning (now (weights .entry))) n ⌝ }
+    ensures cells { λ r. ⌜ (r ≡ None → (i j : ℕ) → i < n → j < n → at kind meaning (now (cells .exit)) (i * n + j) ≡ cell kind (net-of (now (links .entry))) (at kind meaning (now (weights .entry))) n i j) ⌝ }
+{
+    for j in 0..n {
+        fill_column(n, n, j, links, weights, cells, spare);
+        if closed_run_gains(n, j, links, weights, spare) {
+            return Some(j);
+        }
+    }
+    None
+}
+
 // The table, where all that is handed in is in order.
 fn fill_table<W: Weight>(
     n: usize,
@@ -190,16 +225,22 @@ fn fill_table<W: Weight>(
     requires fit { ⌜ Fit kind meaning n (now links) (now weights) ⌝ }
     ensures { λ r. ⌜ Tabled kind meaning n (now (links .entry)) (now (weights .entry)) (now (cells .entry)) (now (spare .entry)) (gain-fault (gaining-event kind (net-of (now (links .entry))) (at kind meaning (now (weights .entry))) n)) (now (cells .exit)) (now (spare .exit)) r ⌝ }
 {
-    for j in 0..n {
-        fill_column(n, j, links, weights, cells, spare);
-        if closed_run_gains(n, j, links, weights, spare) {
+    let gain = fill_columns(n, links, weights, cells, spare);
+    clear(spare);
+    match gain {
+        None => Ok(()),
+        Some(event) => {
             clear(cells);
-            clear(spare);
-            return Err(TableFault::Gain(j));
+            Err(TableFault::Gain(event))
         }
     }
-    clear(spare); // they end as none
-    Ok(())
+}
+
+// Whether a link goes between events below n.
+fn is_below(n: usize, link: Link) -> bool
+    ensures { λ r. ⌜ r ≡ link-below n link ⌝ }
+{
+    (link.from as usize) < n && (link.to as usize) < n
 }
 
 // Whether every link goes between events below n.
@@ -207,11 +248,18 @@ fn events_below(n: usize, links: &[Link]) -> bool
     ensures { λ r. ⌜ r ≡ events-below n (now (links .entry)) ⌝ }
 {
     for link in links {
-        if link.from as usize >= n || link.to as usize >= n {
+        if !is_below(n, *link) {
             return false;
         }
     }
     true
+}
+
+// Whether a weight spans at most 1.
+fn is_light<W: Weight>(w: W) -> bool
+    ensures { λ r. ⌜ r ≡ leb (kind .span (meaning w)) 1 ⌝ }
+{
+    w.span() <= 1
 }
 
 // Whether every weight spans at most 1.
@@ -219,7 +267,7 @@ fn spans_at_most_one<W: Weight>(weights: &[W]) -> bool
     ensures { λ r. ⌜ r ≡ spans-at-most-one kind meaning (now (weights .entry)) ⌝ }
 {
     for w in weights {
-        if w.span() > 1 {
+        if !is_light(*w) {
             return false;
         }
     }
@@ -236,13 +284,13 @@ fn checked_table<W: Weight>(
 ) -> Result<(), TableFault>
     ensures { λ r. ⌜ Tabled kind meaning n (now (links .entry)) (now (weights .entry)) (now (cells .entry)) (now (spare .entry)) (table-fault kind meaning n (now (links .entry)) (now (weights .entry)) (now (cells .entry)) (now (spare .entry))) (now (cells .exit)) (now (spare .exit)) r ⌝ }
 {
-    if n < 1 || n > 32 {
+    if n < 1 || n > MAX_EVENTS {
         return Err(TableFault::EventCount);
     }
     if !events_below(n, links) {
         return Err(TableFault::Event);
     }
-    if links.len() > 128
+    if links.len() > MAX_LINKS
         || links.len() != weights.len()
         || cells.len() != n * n
         || spare.len() != n

@@ -20,7 +20,7 @@ extend-column-requires g c κs =
       square = c .seed-column .kept .cells ∙ c .loop-round .kept .cells ∙ c .pre .square;
       side = side;
       fit = c .pre .fit;
-      room = column-room (g .W·Weight .kind) (g .W·Weight·met .lawful) (g .W·Weight .meaning) (net-of (c .args .links .now)) (c .args .weights .now) (c .loop-round .spare) (c .args .n) (c .loop-round .round) (c .args .j) (c .pre .fit .light) side (omega (arith, c .loop-round-test .taken, c .pre .few)) (c .loop-round .inv .0);
+      room = column-room (g .W·Weight .kind) (g .W·Weight·met .lawful) (g .W·Weight .meaning) (net-of (c .args .links .now)) (c .args .weights .now) (c .loop-round .spare) (c .args .n) (c .loop-round .round) (c .args .j) (c .pre .fit .light) side (omega (arith, c .loop-round-test .taken, c .pre .short)) (c .loop-round .inv .0);
     }
 
 pub returns-then-is-settled : need.returns-then-is-settled
@@ -33,7 +33,7 @@ returns-then-is-settled g c =
     let b = net-within (c .args .n) (c .args .links .now) (c .pre .fit .within) in
     let next = next-column K L net w (c .args .n) b (c .loop-round .round) (c .args .j) (at K m (c .loop-round .spare)) (column-of K m (c .args .n) (c .args .j) (c .seed-column .last .cells)) (column-of K m (c .args .n) (c .args .j) (c .extend-column .last .cells)) (c .loop-round .inv .0) (c .seed-column .ensures .column) (c .extend-column .ensures .column) in
     let same = c .is-settled .ensures .0 (c .if-is-settled .taken) in
-    let done = settled-column K L net w (c .args .n) b (c .loop-round .round) (c .args .n) (c .args .j) (at K m (c .loop-round .spare)) (column-of K m (c .args .n) (c .args .j) (c .extend-column .last .cells)) (omega (arith, c .loop-round-test .taken)) (c .loop-round .inv .0) next same in
+    let done = settled-column K L net w (c .args .n) b (c .loop-round .round) (c .args .rounds) (c .args .j) (at K m (c .loop-round .spare)) (column-of K m (c .args .n) (c .args .j) (c .extend-column .last .cells)) (omega (arith, c .loop-round-test .taken)) (c .loop-round .inv .0) next same in
     record {
       column = λ i h. same i h ∙ done i h;
       spare = done;

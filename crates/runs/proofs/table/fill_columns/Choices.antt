@@ -5,7 +5,7 @@ use Rattle.runs.specs.Runs.{cell, closed-runs}
 use Rattle.runs.specs.Gaining.{lowest, some-gains}
 use Rattle.runs.specs.Links.{net-of, at}
 use Rattle.runs.specs.Rounds.{column-of}
-use Rattle.runs.proofs.table.fill_table.Given as given
+use Rattle.runs.proofs.table.fill_columns.Given as given
 
 abbrev pub Inv-loop-j : given.InvT-loop-j
 Inv-loop-j g l =

@@ -1,13 +1,11 @@
 use mathlib.Core.Path.{_≡_, refl, sym, ap, _∙_}
-use Prim.Native.Nat.{_<_}
 use native.Mathlib.Omega.{arith}
 use Rattle.runs.specs.Runs.{cell, closed-runs}
 use Rattle.runs.specs.Gaining.{lowest, some-gains}
 use Rattle.runs.specs.Links.{net-of, at}
 use Rattle.runs.proofs.Columns.{columns-more}
-use Rattle.runs.proofs.Searches.{lowest-passed, lowest-found}
-use Rattle.runs.proofs.Tables.{tabled-gain, tabled-full}
-use Rattle.runs.proofs.table.fill_table.Needs as need
+use Rattle.runs.proofs.Searches.{some-not-none, lowest-passed, lowest-found}
+use Rattle.runs.proofs.table.fill_columns.Needs as need
 
 pub loop-j-holds : need.loop-j-holds
 loop-j-holds g c = (λ r q hr hq. absurd (omega arith), refl)
@@ -25,18 +23,18 @@ loop-j-again g c =
 pub returns-then-closed-run-gains : need.returns-then-closed-run-gains
 returns-then-closed-run-gains g c =
     let K = g .W·Weight .kind in
-    let m = g .W·Weight .meaning in
-    let w = at K m (c .args .weights .now) in
-    tabled-gain K m (c .args .n) (c .args .links .now) (c .args .weights .now) (c .args .cells .now) (c .args .spare .now) _ _ (c .loop-j .j)
-    (lowest-found (λ j. some-gains K w (closed-runs (net-of (c .args .links .now)) (c .args .n) j)) (c .loop-j .j) (c .args .n) (c .loop-j-test .taken) (c .loop-j .inv .1) (sym (c .closed-run-gains .ensures) ∙ c .if-closed-run-gains .taken))
-    (c .clear .ensures) (c .clear-then-closed-run-gains .ensures)
+    let w = at K (g .W·Weight .meaning) (c .args .weights .now) in
+    record {
+      gain = sym (lowest-found (λ j. some-gains K w (closed-runs (net-of (c .args .links .now)) (c .args .n) j)) (c .loop-j .j) (c .args .n) (c .loop-j-test .taken) (c .loop-j .inv .1) (sym (c .closed-run-gains .ensures) ∙ c .if-closed-run-gains .taken));
+      cells = λ none. absurd (some-not-none none);
+    }
 
 pub returns : need.returns
 returns g c =
     let K = g .W·Weight .kind in
-    let m = g .W·Weight .meaning in
-    let w = at K m (c .args .weights .now) in
+    let w = at K (g .W·Weight .meaning) (c .args .weights .now) in
     let end : c .loop-j .j ≡ c .args .n = omega (arith, c .loop-j .kept .j-end, c .loop-j-test .left) in
-    tabled-full K m (c .args .n) (c .args .links .now) (c .args .weights .now) (c .args .cells .now) (c .args .spare .now) _ _
-    (ap (lowest (λ j. some-gains K w (closed-runs (net-of (c .args .links .now)) (c .args .n) j))) (sym end) ∙ c .loop-j .inv .1)
-    (λ i j hi hj. c .loop-j .inv .0 i j hi (omega arith)) (c .clear-2 .ensures)
+    record {
+      gain = sym (ap (lowest (λ j. some-gains K w (closed-runs (net-of (c .args .links .now)) (c .args .n) j))) (sym end) ∙ c .loop-j .inv .1);
+      cells = λ none i j hi hj. c .loop-j .inv .0 i j hi (omega arith);
+    }
