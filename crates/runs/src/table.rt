@@ -115,7 +115,7 @@ fn copy_column<W: Weight>(n: usize, j: usize, cells: &[W], behind: &mut [W])
     }
 }
 
-// Writes into column `j` of the cells, and into `spare` too, the choice over the runs of fewer than so many links as there are
+// Writes into column `j` of the cells, and into `copy` too, the choice over the runs of fewer than so many links as there are
 // rounds. It ends early where a round changes nothing.
 fn fill_column<W: Weight>(
     n: usize,
@@ -124,27 +124,27 @@ fn fill_column<W: Weight>(
     links: &[Link],
     weights: &[W],
     cells: &mut [W],
-    spare: &mut [W],
+    copy: &mut [W],
 )
     requires few { ⌜ n ≤ 32 ⌝ }
     requires some { ⌜ 0 < rounds ⌝ }
     requires short { ⌜ rounds ≤ 32 ⌝ }
     requires inside { ⌜ j < n ⌝ }
     requires square { ⌜ length (now cells) ≡ n * n ⌝ }
-    requires side { ⌜ length (now spare) ≡ n ⌝ }
+    requires side { ⌜ length (now copy) ≡ n ⌝ }
     requires fit { ⌜ Fit kind meaning n (now links) (now weights) ⌝ }
     ensures column { λ _. ⌜ ((i : ℕ) → i < n → column-of kind meaning n j (now (cells .exit)) i ≡ cell kind (net-of (now (links .entry))) (at kind meaning (now (weights .entry))) rounds i j) ⌝ }
-    ensures spare { λ _. ⌜ ((i : ℕ) → i < n → at kind meaning (now (spare .exit)) i ≡ cell kind (net-of (now (links .entry))) (at kind meaning (now (weights .entry))) rounds i j) ⌝ }
+    ensures copy { λ _. ⌜ ((i : ℕ) → i < n → at kind meaning (now (copy .exit)) i ≡ cell kind (net-of (now (links .entry))) (at kind meaning (now (weights .entry))) rounds i j) ⌝ }
     ensures others { λ _. ⌜ OthersKept kind meaning n j (now (cells .entry)) (now (cells .exit)) ⌝ }
 {
-    clear(spare);
+    clear(copy);
     for round in 0..rounds {
         seed_column(n, j, cells);
-        extend_column(n, j, links, weights, spare, cells);
-        if is_settled(n, j, cells, spare) {
+        extend_column(n, j, links, weights, copy, cells);
+        if is_settled(n, j, cells, copy) {
             return;
         }
-        copy_column(n, j, cells, spare);
+        copy_column(n, j, cells, copy);
     }
 }
 

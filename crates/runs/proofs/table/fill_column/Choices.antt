@@ -10,6 +10,6 @@ Inv-loop-round g l =
     let K = g .W·Weight .kind in
     let m = g .W·Weight .meaning in
     let cells-after = λ (k i : ℕ). cell K (net-of (l .links)) (at K m (l .weights)) k i (l .j) in
-    ((i : ℕ) → i < l .n → at K m (l .spare) i ≡ cells-after (l .round) i)
+    ((i : ℕ) → i < l .n → at K m (l .copy) i ≡ cells-after (l .round) i)
     × ((i : ℕ) → i < l .n → 0 < l .round → column-of K m (l .n) (l .j) (l .cells) i ≡ cells-after (l .round) i)
     × OthersKept K m (l .n) (l .j) (l .entry .cells) (l .cells)
