@@ -1,5 +1,6 @@
 use mathlib.Core.Path.{_≡_, refl, sym, ap, _∙_}
 use native.Mathlib.Omega.{arith}
+use borrow.Author.Needs.{needs}
 use Rattle.runs.specs.Runs.{cell, closed-runs}
 use Rattle.runs.specs.Gaining.{lowest, some-gains}
 use Rattle.runs.specs.Links.{net-of, at}
@@ -16,7 +17,7 @@ loop-j-again g c =
     let m = g .W·Weight .meaning in
     let net = net-of (c .args .links .now) in
     let w = at K m (c .args .weights .now) in (
-      columns-more K m (c .args .n) (c .loop-j .j) (c .loop-j-test .taken) (c .loop-j .cells) (c .fill-column .last .cells) (cell K net w (c .args .n)) (c .fill-column .ensures .column) (c .fill-column .ensures .others) (c .loop-j .inv .0),
+      columns-more K m (c .args .n) (c .loop-j .j) (c .loop-j-test .taken) (c .loop-j .cells) (c .fill-column .last .cells) (cell K net w (c .args .n)) (λ i h. search needs) (c .fill-column .ensures .others) (c .loop-j .inv .0),
       lowest-passed (λ j. some-gains K w (closed-runs net (c .args .n) j)) (c .loop-j .j) (c .loop-j .inv .1) (sym (c .closed-run-gains .ensures) ∙ c .if-closed-run-gains .left),
     )
 

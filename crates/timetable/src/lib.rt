@@ -1,0 +1,149 @@
+// Constraints between departures: what an addition hands in, a constraint with its letter and state, the table of constraints,
+// what counts on a day, and slack.
+ghost use mathlib.Core.Path.{_≡_};
+ghost use mathlib.Core.Bool.{cond};
+ghost use mathlib.Core.List.{[], _∷_, _++_};
+ghost use Prim.Native.Nat.{_+_, _*_, _^_, _<_, _≤_};
+ghost use lib.Dec.{ltb};
+ghost use lib.Signed.{ltZ};
+ghost use lib.IntN.{pos};
+ghost use Rattle.std.specs.Of.Vec.{vec-items, vec-len, vec-cap};
+ghost use Rattle.std.specs.Results.{isOk, Cases};
+ghost use Rattle.std.specs.Vec.{made};
+ghost use Rattle.weights.specs.DaysKind.{days-of};
+ghost use Rattle.timetable.specs.Words.{letter-of, byte-of, is-live, has-day, counted, slack-of, link-of};
+ghost use Rattle.timetable.specs.Words.{free-days};
+use runs::Link;
+use std::alloc::AllocError;
+use std::alloc::Global;
+use weights::days::Days;
+
+// A table has places for so many constraints.
+pub const CAPACITY: usize = 128;
+
+// What an addition hands in: values that may still be out of range, the letter as an ASCII byte.
+#[derive(Clone, Copy, PartialEq, Eq, Debug)]
+pub struct Addition {
+    pub from: u8,
+    pub to: u8,
+    pub time: u16,
+    pub tokens: u8,
+    pub days: u8,
+    pub letter: u8,
+}
+
+// What a constraint is for: running and dwell, layover, transfer, or headway.
+#[derive(Clone, Copy, PartialEq, Eq, Debug)]
+pub enum Letter {
+    Running,
+    Layover,
+    Transfer,
+    Headway,
+}
+
+// Whether a constraint stands, is suspended, or is withdrawn for good.
+#[derive(Clone, Copy, PartialEq, Eq, Debug)]
+pub enum State {
+    Standing,
+    Suspended,
+    Withdrawn,
+}
+
+// A constraint: the departure of event `to` is at least `time` seconds after that of event `from`, `tokens` periods before; on
+// the days of the mask.
+#[derive(Clone, Copy, PartialEq, Eq, Debug)]
+pub struct Constraint {
+    pub from: u8,
+    pub to: u8,
+    pub time: u16,
+    pub tokens: u8,
+    pub days: u8,
+    pub letter: Letter,
+    pub state: State,
+}
+
+impl Letter {
+    // The letter of an ASCII byte: R, L, T or H.
+    pub fn of_byte(byte: u8) -> Option<Letter>
+        ensures { λ r. ⌜ r ≡ letter-of byte ⌝ }
+    {
+        match byte {
+            b'R' => Some(Letter::Running),
+            b'L' => Some(Letter::Layover),
+            b'T' => Some(Letter::Transfer),
+            b'H' => Some(Letter::Headway),
+            _ => None,
+        }
+    }
+
+    // The ASCII byte of a letter.
+    pub fn byte(self) -> u8
+        ensures { λ r. ⌜ r ≡ byte-of self ⌝ }
+    {
+        match self {
+            Letter::Running => b'R',
+            Letter::Layover => b'L',
+            Letter::Transfer => b'T',
+            Letter::Headway => b'H',
+        }
+    }
+}
+
+// The time that lies so many periods after a departure.
+fn later_by(departure: u32, periods: u8, period: u32) -> u64
+    ensures value { λ r. ⌜ r ≡ departure + periods * period ⌝ }
+    ensures bound { λ r. ⌜ r < 2 ^ 41 ⌝ }
+{
+    u64::from(departure) + u64::from(periods) * u64::from(period)
+}
+
+impl Constraint {
+    // Whether the constraint stands or is suspended.
+    pub fn is_live(&self) -> bool
+        ensures { λ r. ⌜ r ≡ is-live (now (self .entry)) ⌝ }
+    {
+        match self.state {
+            State::Standing => true,
+            State::Suspended => true,
+            State::Withdrawn => false,
+        }
+    }
+
+    // Whether the constraint counts on a day, 0 for Monday to 6 for Sunday: it stands, and its mask has the day.
+    pub fn counts_on(&self, day: u8) -> bool
+        ensures { λ r. ⌜ r ≡ counted day (now (self .entry)) ⌝ }
+    {
+        match self.state {
+            State::Standing => day < 7 && (self.days >> day) % 2 == 1,
+            State::Suspended => false,
+            State::Withdrawn => false,
+        }
+    }
+
+    // The slack, in seconds, where event `from` departs at `departs` and event `to` at `arrives`, in a timetable of the period.
+    // It may be negative.
+    pub fn slack(&self, departs: u32, arrives: u32, period: u32) -> i64
+        ensures { λ r. ⌜ r ≡ slack-of departs arrives period (now (self .entry)) ⌝ }
+    {
+        let latest = later_by(arrives, self.tokens, period);
+        let earliest = u64::from(departs) + u64::from(self.time);
+        latest as i64 - earliest as i64
+    }
+
+    // Whether the constraint is broken: its slack is negative.
+    pub fn is_broken(&self, departs: u32, arrives: u32, period: u32) -> bool
+        ensures { λ r. ⌜ r ≡ ltZ (slack-of departs arrives period (now (self .entry))) (pos 0) ⌝ }
+    {
+        self.slack(departs, arrives, period) < 0
+    }
+
+    // The link that the constraint is between its events.
+    pub fn link(&self) -> Link
+        ensures { λ r. ⌜ r ≡ link-of (now (self .entry)) ⌝ }
+    {
+        Link {
+            from: self.from,
+            to: self.to,
+        }
+    }
+}
