@@ -13,6 +13,7 @@ use Rattle.std.specs.declared.option.Option.the-variants.{Some, None}
 use Rattle.std.specs.declared.result.Result.{Result}
 use Rattle.std.specs.declared.result.Result.the-variants.{Ok, Err}
 use Rattle.std.proofs.shelf.Ways.{decides-and, decides-ltb}
+use Rattle.faults.specs.Causes.{unless, reply-of}
 use Rattle.weights.specs.Kinds.{Kind, Laws, Idempotent}
 use Rattle.runs.specs.declared.Link.{Link}
 use Rattle.runs.specs.declared.TableFault.{TableFault}
@@ -23,7 +24,7 @@ use Rattle.runs.specs.Gaining.{some-gains, gaining-event, SomeCircuitGains, No
 use Rattle.runs.specs.Links.{net-of, at}
 use Rattle.runs.specs.Faults.{report-of}
 use Rattle.runs.specs.Rounds.{Fit}
-use Rattle.runs.specs.Tables.{in-range, events-below, right-lengths, spans-at-most-one, unless, gain-fault, reply-of, early-fault, table-fault, CellsAfter, SpareAfter, Tabled, Cause, LowestCause, RefusedForGain, TableLaw}
+use Rattle.runs.specs.Tables.{in-range, events-below, right-lengths, spans-at-most-one, gain-fault, early-fault, table-fault, CellsAfter, SpareAfter, Tabled, Cause, LowestCause, RefusedForGain, TableLaw}
 use Rattle.runs.proofs.Extending.{net-within}
 use Rattle.runs.proofs.Searches.{decides-leb, every-says, lowest-passes, none-passes}
 use Rattle.runs.proofs.Theorem.{gaining-circuit, no-gaining-circuit, none-gains-closed, least-above}

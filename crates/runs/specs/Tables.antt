@@ -11,6 +11,7 @@ use Rattle.std.specs.declared.option.Option.{Option}
 use Rattle.std.specs.declared.option.Option.the-variants.{Some, None}
 use Rattle.std.specs.declared.result.Result.{Result}
 use Rattle.std.specs.declared.result.Result.the-variants.{Ok, Err}
+use Rattle.faults.specs.Causes.{unless, reply-of}
 use Rattle.weights.specs.Kinds.{Kind}
 use Rattle.runs.specs.declared.Link.{Link}
 use Rattle.runs.specs.declared.TableFault.{TableFault}
@@ -46,17 +47,9 @@ right-lengths n ls ws cells spare = leb (length ls) 128 && (eqb (length ls) (len
 abbrev pub spans-at-most-one : (K : Kind) {X : Type 0} → (X → K .carrier) → List X → Bool
 spans-at-most-one K m ws = every (λ w. leb (K .span (m w)) 1) ws
 
--- a fault where a condition fails, else the next cause
-abbrev pub unless : Bool → TableFault → Option TableFault → Option TableFault
-unless holds fault next = cond holds next (Some fault)
-
 abbrev pub gain-fault : Option ℕ → Option TableFault
 gain-fault None = None
 gain-fault (Some event) = Some (Gain event)
-
-abbrev pub reply-of : Option TableFault → Result (Unit {0}) TableFault
-reply-of None = Ok tt
-reply-of (Some fault) = Err fault
 
 -- what a list of weights holds after the call: on a gain none everywhere, on any other fault what it held before
 abbrev pub Left : (K : Kind) {X : Type 0} → (X → K .carrier) → List X → List X → TableFault → Type 0

@@ -1,22 +1,22 @@
 // Constraints between departures: what an addition hands in, a constraint with its letter and state, the table of constraints,
 // what counts on a day, and slack.
 ghost use mathlib.Core.Path.{_≡_};
-ghost use mathlib.Core.Bool.{cond};
+ghost use mathlib.Core.Bool.{cond, false, _&&_};
 ghost use mathlib.Core.List.{[], _∷_, _++_};
 ghost use Prim.Native.Nat.{_+_, _*_, _^_, _<_, _≤_};
-ghost use lib.Dec.{ltb};
+ghost use lib.Dec.{eqb, ltb};
 ghost use lib.Signed.{ltZ};
 ghost use lib.IntN.{pos};
 ghost use Rattle.std.specs.Of.Vec.{vec-items, vec-len, vec-cap};
-ghost use Rattle.std.specs.Results.{isOk, Cases};
-ghost use Rattle.std.specs.Vec.{made};
+ghost use Rattle.std.specs.Results.{isOk};
+ghost use Rattle.std.specs.Vec.{made, refused};
 ghost use Rattle.weights.specs.DaysKind.{days-of};
-ghost use Rattle.timetable.specs.Words.{letter-of, byte-of, is-live, has-day, counted, slack-of, link-of};
-ghost use Rattle.timetable.specs.Words.{free-days};
+ghost use Rattle.timetable.specs.Words.{letter-of, byte-of, is-live, counted, slack-of, link-of, free-days};
 use runs::Link;
 use std::alloc::AllocError;
 use std::alloc::Global;
 use weights::days::Days;
+use weights::days::DaysWeight;
 
 // A table has places for so many constraints.
 pub const CAPACITY: usize = 128;
@@ -145,5 +145,71 @@ impl Constraint {
             from: self.from,
             to: self.to,
         }
+    }
+
+    // The days on which the constraint stands or is suspended without a token.
+    pub fn free_days(&self) -> Days
+        ensures { λ r. ⌜ days-of (r .mask) ≡ free-days (now (self .entry)) ⌝ }
+    {
+        if self.is_free() {
+            days_of(self.days)
+        } else {
+            no_days()
+        }
+    }
+
+    // Whether the constraint stands or is suspended and has no token.
+    fn is_free(&self) -> bool
+        ensures { λ r. ⌜ r ≡ (is-live (now (self .entry)) && eqb (now (self .entry) .tokens) 0) ⌝ }
+    {
+        self.is_live() && self.tokens == 0
+    }
+}
+
+// No day.
+fn no_days() -> Days
+    ensures { λ r. ⌜ days-of (r .mask) ≡ (λ d. false) ⌝ }
+{
+    DaysWeight::none()
+}
+
+// The weekdays of a byte: its eighth bit stands for none.
+fn days_of(mask: u8) -> Days
+    ensures { λ r. ⌜ days-of (r .mask) ≡ days-of mask ⌝ }
+{
+    match Days::of_mask(mask % 128) {
+        Some(days) => days,
+        None => unreachable(),
+    }
+}
+
+// The constraints of a board by their numbers, with places reserved for all that it can have.
+#[derive(Drop)]
+pub struct ConstraintTable {
+    pub rows: Vec<Constraint>,
+}
+
+impl ConstraintTable {
+    // An empty table, with its places.
+    pub fn new(heap: Global) -> Result<ConstraintTable, AllocError>
+        ensures { λ r. ⌜ made r (λ t. (vec-items (t .rows) ≡ []) × (vec-len (t .rows) ≡ 0) × (128 ≤ vec-cap (t .rows))) ⌝ }
+    {
+        Ok(ConstraintTable {
+            rows: Vec::with_capacity(heap, CAPACITY)?,
+        })
+    }
+
+    // One constraint more, under the next number; where no place is left, it comes back and the table stays as it was.
+    pub fn push(&mut self, constraint: Constraint) -> Result<(), Constraint>
+        ensures test { λ r. ⌜ isOk r ≡ ltb (vec-len (now (self .entry) .rows)) (vec-cap (now (self .entry) .rows)) ⌝ }
+        ensures back { λ r. ⌜ refused r (λ c. c ≡ constraint) ⌝ }
+        ensures rows { λ r. ⌜ vec-items (now (self .exit) .rows) ≡ cond (isOk r) (vec-items (now (self .entry) .rows) ++ constraint ∷ []) (vec-items (now (self .entry) .rows)) ⌝ }
+        ensures capacity { λ _. ⌜ vec-cap (now (self .exit) .rows) ≡ vec-cap (now (self .entry) .rows) ⌝ }
+    {
+        if self.rows.len() >= self.rows.capacity() {
+            return Err(constraint);
+        }
+        self.rows.push_reserved(constraint);
+        Ok(())
     }
 }

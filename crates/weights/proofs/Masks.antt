@@ -1,13 +1,14 @@
 -- What a mask's bits say of its days: the bits of a union or an intersection are those of the days, and a mask of seven
 -- bits is known by its days.
 use mathlib.Core.Path.{_≡_, sym, ap, _∙_, fun-ext}
-use mathlib.Core.Bool.{Bool, _||_, _&&_}
+use mathlib.Core.Bool.{Bool, true, false, not, cond, _||_, _&&_}
 use Prim.Native.Nat.{ℕ, max, min, _+_, _*_, _/_, _%_, _^_, _<_}
 use native.Mathlib.Omega.{arith}
 use lib.Bits.{bitOr, bitAnd, or-step, and-step, or-shr, and-shr}
 use lib.Dec.{eqb}
+use Rattle.std.proofs.shelf.Bits.{and-le-l}
 use Rattle.std.proofs.shelf.Ways.{tells, same-from-decides, decides-eqb, decides-like}
-use Rattle.weights.specs.DaysKind.{Weekday, monday, tuesday, wednesday, thursday, friday, saturday, sunday, bit-of, days-of, days-kind}
+use Rattle.weights.specs.DaysKind.{Weekday, monday, tuesday, wednesday, thursday, friday, saturday, sunday, bit-of, days-of, some-weekday, days-kind}
 use Rattle.weights.proofs.DaysLaws.{days-laws}
 
 low-max : (u x y : ℕ) → x < 2 → y < 2 → (u * 2 + max x y) % 2 ≡ max x y
@@ -52,3 +53,12 @@ mask-same a b p q e = by-bits a b p q (day-same a b monday e) (day-same a b tues
 -- two masks are equal exactly when their days are
 pub mask-equal : (a b : ℕ) → a < 128 → b < 128 → eqb b a ≡ days-kind .equal (days-of a) (days-of b)
 mask-equal a b p q = same-from-decides (eqb b a) (days-kind .equal (days-of a) (days-of b)) (decides-like (eqb b a) (λ e. ap days-of (sym e)) (λ e. sym (mask-same a b p q e)) (decides-eqb b a)) (days-laws .equal-says (days-of a) (days-of b))
+
+-- a mask of seven bits is 0 exactly when no weekday has its bit
+none-bit : (a : ℕ) → a < 128 → some-weekday (days-of a) ≡ not (eqb a 0)
+none-bit a h = grind (arith, tells)
+
+pub mask-meets : (a b : ℕ) → a < 128 → not (eqb (bitAnd a b) 0) ≡ some-weekday (λ d. days-of a d && days-of b d)
+mask-meets a b h =
+    let small : bitAnd a b < 128 = omega (arith, and-le-l a b) in
+    sym (none-bit (bitAnd a b) small) ∙ ap some-weekday (days-and a b)

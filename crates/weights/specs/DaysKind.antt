@@ -32,6 +32,10 @@ days-of mask d = eqb (mask / 2 ^ bit-of d % 2) 1
 abbrev pub every-weekday : (Weekday → Bool) → Bool
 every-weekday a = a monday && (a tuesday && (a wednesday && (a thursday && (a friday && (a saturday && a sunday)))))
 
+-- whether a holds on some weekday
+abbrev pub some-weekday : (Weekday → Bool) → Bool
+some-weekday a = a monday || (a tuesday || (a wednesday || (a thursday || (a friday || (a saturday || a sunday)))))
+
 abbrev pub days-kind : Kind
 days-kind = record {
   carrier = Weekday → Bool;

@@ -1,8 +1,9 @@
 // Days: sets of weekdays.
 ghost use mathlib.Core.Path.{_≡_};
+ghost use mathlib.Core.Bool.{_&&_};
 ghost use Prim.Native.Nat.{_<_, _≤_};
 ghost use Rattle.std.specs.Options.{Cases};
-ghost use Rattle.weights.specs.DaysKind.{days-of, days-kind};
+ghost use Rattle.weights.specs.DaysKind.{days-of, some-weekday, days-kind};
 use crate::Weight;
 
 // A set of weekdays as a mask: bit 0 is Monday, bit 6 is Sunday.
@@ -29,6 +30,13 @@ impl Days {
         ensures { λ r. ⌜ r ≡ self .mask ⌝ }
     {
         self.mask
+    }
+
+    // Whether two sets of days have a day in common.
+    pub fn meets(self, other: Days) -> bool
+        ensures { λ r. ⌜ r ≡ some-weekday (λ d. days-of (self .mask) d && days-of (other .mask) d) ⌝ }
+    {
+        self.mask & other.mask != 0
     }
 }
 
