@@ -1,0 +1,42 @@
+-- An opening that passes every test is accepted, and its values are in range.
+use mathlib.Core.Path.{_≡_, refl, sym, ap, _∙_}
+use mathlib.Core.Bool.{Bool, true, false, cond, _&&_}
+use mathlib.Core.List.{List, []}
+use Prim.Native.Nat.{ℕ, _≤_}
+use native.Mathlib.Omega.{arith}
+use lib.Dec.{eqb, leb}
+use lib.ListN.{length}
+use Rattle.std.proofs.shelf.Ways.{tells}
+use Rattle.std.specs.declared.option.Option.the-variants.{None}
+use Rattle.timetable.specs.declared.Constraint.{Constraint}
+use Rattle.runs.specs.Tables.{in-range}
+use Rattle.board.specs.Invariant.{period-in-range, departures-below, opening-in-range}
+use Rattle.board.specs.Ledger.{Ledger, nothing, holding, open-fault, opened-as, unless-refused, open-after}
+
+module _ (events period : ℕ) (departures : List ℕ) (some : 1 ≤ events) (few : events ≤ 32) (runs : 1 ≤ period) (short : period ≤ 86400) (below : true ≡ departures-below period departures) (long : length departures ≡ events) where
+  range : in-range events ≡ true
+  range = grind (arith, tells)
+
+  period-range : period-in-range period ≡ true
+  period-range = grind (arith, tells)
+
+  length-right : eqb (length departures) events ≡ true
+  length-right = grind (arith, tells)
+
+  pub opening-ok : opening-in-range events period departures ≡ true
+  opening-ok = rw (range, period-range, ← below, length-right)
+
+  pub opening-accepted : open-fault nothing events period departures ≡ None
+  opening-accepted = rw (range, period-range, ← below, length-right)
+
+  -- what an accepted opening leaves of a new board
+  pub opening-leaves : (l : Ledger) (mark : ℕ) (ds : List ℕ) (rows : List Constraint) → l ≡ nothing → ds ≡ departures → rows ≡ []
+      → (None ≡ open-fault l events period departures) × (holding (record { mark = mark; events = events; period = period; departures = ds; rows = rows }) ≡ open-after l mark events period departures)
+  opening-leaves l mark ds rows new same empty =
+      let accepted : None ≡ open-fault l events period departures = sym (ap (λ x. open-fault x events period departures) new ∙ opening-accepted) in
+      (
+        accepted,
+        ap (λ x. holding (record { mark = mark; events = events; period = period; departures = x; rows = rows })) same
+        ∙ ap (λ x. holding (record { mark = mark; events = events; period = period; departures = departures; rows = x })) empty
+        ∙ ap (λ fault. unless-refused fault (holding (opened-as mark events period departures)) l) accepted,
+      )

@@ -1,0 +1,86 @@
+-- The plain ledger: what a board holds as plain values, which fault each call gets for it, and what the call leaves.
+use mathlib.Core.Bool.{Bool, not, _&&_}
+use mathlib.Core.List.{List, [], _∷_, _++_}
+use Prim.Native.Nat.{ℕ}
+use lib.Dec.{eqb, leb, ltb}
+use lib.ListN.{length}
+use Rattle.std.specs.Options.{isSome, valueOr}
+use Rattle.std.specs.declared.option.Option.{Option}
+use Rattle.std.specs.declared.option.Option.the-variants.{Some, None}
+use Rattle.faults.specs.Causes.{unless}
+use Rattle.runs.specs.Tables.{in-range}
+use Rattle.timetable.specs.declared.Addition.{Addition}
+use Rattle.timetable.specs.declared.Constraint.{Constraint}
+use Rattle.timetable.specs.declared.Letter.the-variants.{Running}
+use Rattle.timetable.specs.declared.State.the-variants.{Standing}
+use Rattle.timetable.specs.Words.{letter-of}
+use Rattle.board.specs.declared.fault.BoardFault.{BoardFault}
+use Rattle.board.specs.declared.fault.BoardFault.the-variants.{New, Opened, EventCount, Period, Departure, Event, Time, Tokens, Days, Letter, Full, Circuit, Length}
+use Rattle.board.specs.Circuits.{closes-circuit}
+use Rattle.board.specs.Invariant.{period-in-range, departures-below}
+
+-- what an opened board holds: the opening's values, and a row for each constraint by its number
+pub record Held : Type 0 where
+  pub mark : ℕ
+  pub events : ℕ
+  pub period : ℕ
+  pub departures : List ℕ
+  pub rows : List Constraint
+
+-- a new board holds nothing
+pub data Ledger : Type 0 where
+  nothing : Ledger
+  holding : Held → Ledger
+
+-- the fault of an opening
+abbrev pub open-fault : Ledger → ℕ → ℕ → List ℕ → Option BoardFault
+open-fault (holding h) events period departures = Some Opened
+open-fault nothing events period departures =
+    unless (in-range events) EventCount
+    (unless (period-in-range period) Period
+    (unless (departures-below period departures) Departure
+    (unless (eqb (length departures) events) Length None)))
+
+-- an accepted opening sets mark, events, period and departures, and leaves no rows
+abbrev pub opened-as : ℕ → ℕ → ℕ → List ℕ → Held
+opened-as mark events period departures = record { mark = mark; events = events; period = period; departures = departures; rows = [] }
+
+-- the ledger that a call leaves: another where it is accepted, the same where it is refused
+abbrev pub unless-refused : Option BoardFault → Ledger → Ledger → Ledger
+unless-refused None after before = after
+unless-refused (Some fault) after before = before
+
+abbrev pub open-after : Ledger → ℕ → ℕ → ℕ → List ℕ → Ledger
+open-after l mark events period departures = unless-refused (open-fault l events period departures) (holding (opened-as mark events period departures)) l
+
+-- the constraint of an addition, standing
+abbrev pub constraint-of : Addition → Constraint
+constraint-of a = record { from = a .from; to = a .to; time = a .time; tokens = a .tokens; days = a .days; letter = valueOr (letter-of (a .letter)) Running; state = Standing }
+
+-- the causes of refusing an addition before its circuits are looked at
+abbrev pub early-add-fault : Held → Addition → Option BoardFault → Option BoardFault
+early-add-fault h a next =
+    unless (ltb (a .from) (h .events) && ltb (a .to) (h .events)) Event
+    (unless (leb (a .time) 14400) Time
+    (unless (leb (a .tokens) 7) Tokens
+    (unless (leb 1 (a .days) && leb (a .days) 127) Days
+    (unless (isSome (letter-of (a .letter))) Letter
+    (unless (ltb (length (h .rows)) 128) Full next)))))
+
+-- the fault of an addition
+abbrev pub add-fault : Ledger → Addition → Option BoardFault
+add-fault nothing a = Some New
+add-fault (holding h) a = early-add-fault h a (unless (not (closes-circuit (h .events) (h .rows) a)) Circuit None)
+
+-- an accepted addition appends its row, standing
+abbrev pub with-row : Ledger → Constraint → Ledger
+with-row nothing c = nothing
+with-row (holding h) c = holding (record { mark = h .mark; events = h .events; period = h .period; departures = h .departures; rows = h .rows ++ c ∷ [] })
+
+abbrev pub add-after : Ledger → Addition → Ledger
+add-after l a = unless-refused (add-fault l a) (with-row l (constraint-of a)) l
+
+-- the number that the next constraint gets: the count of accepted additions
+abbrev pub next-number : Ledger → ℕ
+next-number nothing = 0
+next-number (holding h) = length (h .rows)

@@ -1,0 +1,5 @@
+pub mod Faults
+pub mod Circuits
+pub mod Ledger
+pub mod Invariant
+pub mod Holding

@@ -1,0 +1,91 @@
+// Making and opening a board.
+ghost use mathlib.Core.Path.{_≡_};
+ghost use Prim.Native.Nat.{_≤_};
+ghost use lib.ListN.{length};
+ghost use Rattle.std.specs.Of.Vec.{vec-items, vec-len, vec-cap};
+ghost use Rattle.std.specs.Vec.{made};
+ghost use Rattle.faults.specs.Causes.{fault-of};
+ghost use Rattle.board.specs.Invariant.{departures-below};
+ghost use Rattle.board.specs.Ledger.{nothing, open-fault, open-after};
+ghost use Rattle.board.specs.Holding.{ledger-of};
+use crate::Board;
+use crate::BoardFault;
+use std::alloc::AllocError;
+use std::alloc::Global;
+use timetable::ConstraintTable;
+
+// Whether each departure is below the period.
+fn departures_below(period: u32, departures: &[u32]) -> bool
+    ensures { λ r. ⌜ r ≡ departures-below period (now (departures .entry)) ⌝ }
+{
+    for d in departures {
+        if *d >= period {
+            return false;
+        }
+    }
+    true
+}
+
+// Copies the departures into the empty list, which has places for them.
+fn keep_departures(list: &mut Vec<u32>, departures: &[u32])
+    requires empty { ⌜ vec-len (now list) ≡ 0 ⌝ }
+    requires room { ⌜ length (now departures) ≤ vec-cap (now list) ⌝ }
+    ensures items { λ _. ⌜ vec-items (now (list .exit)) ≡ now (departures .entry) ⌝ }
+    ensures capacity { λ _. ⌜ vec-cap (now (list .exit)) ≡ vec-cap (now (list .entry)) ⌝ }
+{
+    for d in departures {
+        list.push_reserved(*d);
+    }
+}
+
+impl Board {
+    // A new board. It fails only for want of memory; no later call wants any.
+    pub fn new(heap: Global) -> Result<Board, AllocError>
+        ensures { λ r. ⌜ made r (λ b. ledger-of b ≡ nothing) ⌝ }
+    {
+        let departures = Vec::with_capacity(heap, 32)?;
+        let table = ConstraintTable::new(heap)?;
+        let kept = Vec::with_capacity(heap, 1024)?;
+        Ok(Board {
+            opened: false,
+            mark: 0,
+            events: 0,
+            period: 1,
+            departures,
+            table,
+            current: false,
+            day: 0,
+            kept,
+        })
+    }
+
+    // Opens a new board: with a mark, 1 to 32 events, a period of 1 to 86,400 seconds, and for each event its departure below the
+    // period. Refused with 2, 3, 4, 5 and 18.
+    pub fn open(&mut self, mark: u16, events: u8, period: u32, departures: &[u32]) -> Result<(), BoardFault>
+        ensures reply { λ r. ⌜ fault-of r ≡ open-fault (ledger-of (now (self .entry))) events period (now (departures .entry)) ⌝ }
+        ensures after { λ _. ⌜ ledger-of (now (self .exit)) ≡ open-after (ledger-of (now (self .entry))) mark events period (now (departures .entry)) ⌝ }
+    {
+        if self.opened {
+            return Err(BoardFault::Opened);
+        }
+        if events < 1 || events > 32 {
+            return Err(BoardFault::EventCount);
+        }
+        if period < 1 || period > 86400 {
+            return Err(BoardFault::Period);
+        }
+        if !departures_below(period, departures) {
+            return Err(BoardFault::Departure);
+        }
+        if departures.len() != usize::from(events) {
+            return Err(BoardFault::Length);
+        }
+        keep_departures(&mut self.departures, departures);
+        self.current = false;
+        self.mark = mark;
+        self.events = events;
+        self.period = period;
+        self.opened = true;
+        Ok(())
+    }
+}

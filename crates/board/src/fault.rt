@@ -1,0 +1,64 @@
+// The board's faults.
+ghost use mathlib.Core.Path.{_≡_};
+ghost use Rattle.board.specs.Faults.{report-of};
+use faults::Layer;
+use faults::Report;
+
+// Why a board refuses a call.
+#[derive(Clone, Copy, PartialEq, Eq, Debug)]
+pub enum BoardFault {
+    // another call than opening or loading, on a new board
+    New,
+    // opening or loading an opened board
+    Opened,
+    // the number of events is not 1 to 32
+    EventCount,
+    // the period is not 1 to 86,400
+    Period,
+    // a departure is not below the period
+    Departure,
+    // an event is not below the number of events
+    Event,
+    // the time is above 14,400
+    Time,
+    // there are more than 7 tokens
+    Tokens,
+    // the days mask is not 1 to 127
+    Days,
+    // the letter is not R, L, T or H
+    Letter,
+    // 128 additions were accepted
+    Full,
+    // the addition would close a token-free circuit
+    Circuit,
+    // a list has the wrong length
+    Length,
+}
+
+impl BoardFault {
+    // The fault's layer, number and place.
+    pub fn report(self) -> Report
+        ensures { λ r. ⌜ r ≡ report-of self ⌝ }
+    {
+        let number = match self {
+            BoardFault::New => 1,
+            BoardFault::Opened => 2,
+            BoardFault::EventCount => 3,
+            BoardFault::Period => 4,
+            BoardFault::Departure => 5,
+            BoardFault::Event => 6,
+            BoardFault::Time => 7,
+            BoardFault::Tokens => 8,
+            BoardFault::Days => 9,
+            BoardFault::Letter => 10,
+            BoardFault::Full => 11,
+            BoardFault::Circuit => 12,
+            BoardFault::Length => 18,
+        };
+        Report {
+            layer: Layer::Board,
+            number,
+            place: 0,
+        }
+    }
+}
