@@ -1,2 +1,3 @@
 pub mod Empty
 pub mod Openings
+pub mod DaysTable
