@@ -1,3 +1,5 @@
 pub mod Empty
 pub mod Openings
 pub mod DaysTable
+pub mod FreeRuns
+pub mod FreeCircuits

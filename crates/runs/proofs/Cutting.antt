@@ -3,7 +3,7 @@
 use mathlib.Core.Path.{_≡_, refl, sym, ap, subst, _∙_}
 use mathlib.Core.List.{List, [], _∷_, _++_, map}
 use mathlib.Core.Logic.{_⊎_, inl, inr, ⊎-elim}
-use Prim.Native.Nat.{ℕ, _+_, _<_, _≤_}
+use Prim.Native.Nat.{ℕ, zero, suc, _+_, _<_, _≤_}
 use native.Mathlib.Omega.{arith}
 use lib.ListN.{length}
 use Rattle.std.proofs.shelf.Lists.{append-nil, length-append, length-map}
@@ -142,3 +142,53 @@ module _ (net : Net) where
 
     pub short-length : length (c .before ++ c .after) < length run
     short-length = omega (arith, cut-length, length-append (c .before) (c .after), c .some)
+
+  -- a run that meets no event twice, not even its last
+  pub record Simple (i j : ℕ) : Type 0 where
+    pub run : List ℕ
+    pub is-run : IsRun net i j run
+    pub apart : Distinct (events run)
+    pub once : In j (events run) → ⊥
+
+  -- where there is a run there is a simple one: cut closed parts out, and end at the first visit of the last event
+  simple-within : (k i j : ℕ) (run : List ℕ) → length run ≤ k → IsRun net i j run → Simple i j
+  simple-within zero i j [] le is = record { run = []; is-run = is; apart = tt; once = λ h. h }
+  simple-within zero i j (l ∷ run) le is = absurd (omega arith)
+  simple-within (suc k) i j run le is = go (simple-within k i j) (distinct-or-cut run i j is) (in? j (events run))
+    where
+      go : ((r : List ℕ) → length r ≤ k → IsRun net i j r → Simple i j) → Distinct (events run) ⊎ InnerCut i j run → Dec (In j (events run)) → Simple i j
+      go ih (inr (c, more)) d = ih (c .before ++ c .after) (omega (arith, short-length i j run c)) (short-run i j run c)
+      go ih (inl apart) (no once) = record { run = run; is-run = is; apart = apart; once = once }
+      go ih (inl apart) (yes h) =
+          let t : Parted net i j j run = part i j j run h is in
+          ih (t .front) (omega (arith, ap length (t .whole), length-append (t .front) (t .back), t .some)) (t .front-run)
+
+  pub simple-run : (i j : ℕ) (run : List ℕ) → IsRun net i j run → Simple i j
+  simple-run i j run is = simple-within (length run) i j run (omega arith) is
+
+  -- a run in two parts around one of its links
+  pub record Around (i j l : ℕ) (run : List ℕ) : Type 0 where
+    pub before : List ℕ
+    pub after : List ℕ
+    pub whole : run ≡ before ++ l ∷ after
+    pub before-run : IsRun net i (net .from l) before
+    pub after-run : IsRun net (net .to l) j after
+
+  pub around : (i j l : ℕ) (run : List ℕ) → In l run → IsRun net i j run → Around i j l run
+  around i j l [] h is = absurd h
+  around i j l (k ∷ run) (inl same) is = record {
+    before = [];
+    after = run;
+    whole = ap (λ y. y ∷ run) (sym same);
+    before-run = sym (ap (net .from) same ∙ is .1);
+    after-run = subst (λ y. IsRun net (net .to y) j run) (sym same) (is .2);
+  }
+  around i j l (k ∷ run) (inr h) is =
+      let t : Around (net .to k) j l run = around (net .to k) j l run h (is .2) in
+      record {
+        before = k ∷ t .before;
+        after = t .after;
+        whole = ap (λ y. k ∷ y) (t .whole);
+        before-run = (is .0, is .1, t .before-run);
+        after-run = t .after-run;
+      }
