@@ -3,3 +3,4 @@ pub mod Openings
 pub mod DaysTable
 pub mod FreeRuns
 pub mod FreeCircuits
+pub mod Additions

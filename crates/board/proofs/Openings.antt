@@ -13,6 +13,16 @@ use Rattle.runs.specs.Tables.{in-range}
 use Rattle.board.specs.Invariant.{period-in-range, departures-below, opening-in-range}
 use Rattle.board.specs.Ledger.{Ledger, nothing, holding, open-fault, opened-as, unless-refused, open-after}
 
+pub range-few : (n : ℕ) → in-range n ≡ true → n ≤ 32
+range-few n e = grind (arith, tells)
+
+pub opening-events : (events period : ℕ) (departures : List ℕ) → opening-in-range events period departures ≡ true → in-range events ≡ true
+opening-events events period departures e = go (in-range events) e
+  where
+    go : (t : Bool) → (t && (period-in-range period && (departures-below period departures && eqb (length departures) events))) ≡ true → t ≡ true
+    go true h = refl
+    go false h = h
+
 module _ (events period : ℕ) (departures : List ℕ) (some : 1 ≤ events) (few : events ≤ 32) (runs : 1 ≤ period) (short : period ≤ 86400) (below : true ≡ departures-below period departures) (long : length departures ≡ events) where
   range : in-range events ≡ true
   range = grind (arith, tells)

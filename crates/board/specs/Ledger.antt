@@ -1,5 +1,7 @@
 -- The plain ledger: what a board holds as plain values, which fault each call gets for it, and what the call leaves.
-use mathlib.Core.Bool.{Bool, not, _&&_}
+use mathlib.Core.Path.{_≡_}
+use mathlib.Core.Bool.{not, _&&_}
+use mathlib.Core.Logic.{_↔_}
 use mathlib.Core.List.{List, [], _∷_, _++_}
 use Prim.Native.Nat.{ℕ}
 use lib.Dec.{eqb, leb, ltb}
@@ -16,7 +18,7 @@ use Rattle.timetable.specs.declared.State.the-variants.{Standing}
 use Rattle.timetable.specs.Words.{letter-of}
 use Rattle.board.specs.declared.fault.BoardFault.{BoardFault}
 use Rattle.board.specs.declared.fault.BoardFault.the-variants.{New, Opened, EventCount, Period, Departure, Event, Time, Tokens, Days, Letter, Full, Circuit, Length}
-use Rattle.board.specs.Circuits.{closes-circuit}
+use Rattle.board.specs.Circuits.{closes-circuit, FreeCircuitThrough}
 use Rattle.board.specs.Invariant.{period-in-range, departures-below}
 
 -- what an opened board holds: the opening's values, and a row for each constraint by its number
@@ -58,19 +60,19 @@ abbrev pub constraint-of : Addition → Constraint
 constraint-of a = record { from = a .from; to = a .to; time = a .time; tokens = a .tokens; days = a .days; letter = valueOr (letter-of (a .letter)) Running; state = Standing }
 
 -- the causes of refusing an addition before its circuits are looked at
-abbrev pub early-add-fault : Held → Addition → Option BoardFault → Option BoardFault
-early-add-fault h a next =
-    unless (ltb (a .from) (h .events) && ltb (a .to) (h .events)) Event
+abbrev pub early-add-fault : ℕ → ℕ → Addition → Option BoardFault → Option BoardFault
+early-add-fault events count a next =
+    unless (ltb (a .from) events && ltb (a .to) events) Event
     (unless (leb (a .time) 14400) Time
     (unless (leb (a .tokens) 7) Tokens
     (unless (leb 1 (a .days) && leb (a .days) 127) Days
     (unless (isSome (letter-of (a .letter))) Letter
-    (unless (ltb (length (h .rows)) 128) Full next)))))
+    (unless (ltb count 128) Full next)))))
 
 -- the fault of an addition
 abbrev pub add-fault : Ledger → Addition → Option BoardFault
 add-fault nothing a = Some New
-add-fault (holding h) a = early-add-fault h a (unless (not (closes-circuit (h .events) (h .rows) a)) Circuit None)
+add-fault (holding h) a = early-add-fault (h .events) (length (h .rows)) a (unless (not (closes-circuit (h .events) (h .rows) a)) Circuit None)
 
 -- an accepted addition appends its row, standing
 abbrev pub with-row : Ledger → Constraint → Ledger
@@ -79,6 +81,12 @@ with-row (holding h) c = holding (record { mark = h .mark; events = h .events; p
 
 abbrev pub add-after : Ledger → Addition → Ledger
 add-after l a = unless-refused (add-fault l a) (with-row l (constraint-of a)) l
+
+-- where no lower cause holds, an addition is refused with 12 exactly when, on some day, there is a circuit of token-free constraints
+-- through the new one, each of the others standing or suspended
+abbrev pub CircuitLaw : Ledger → Addition → Option BoardFault → Type 0
+CircuitLaw nothing a fault = Unit {0}
+CircuitLaw (holding h) a fault = early-add-fault (h .events) (length (h .rows)) a None ≡ None → (fault ≡ Some Circuit) ↔ FreeCircuitThrough (h .rows) (constraint-of a)
 
 -- the number that the next constraint gets: the count of accepted additions
 abbrev pub next-number : Ledger → ℕ

@@ -1,18 +1,24 @@
-// Making and opening a board.
+// Making, opening and filling a board.
 ghost use mathlib.Core.Path.{_≡_};
 ghost use Prim.Native.Nat.{_≤_};
 ghost use lib.ListN.{length};
 ghost use Rattle.std.specs.Of.Vec.{vec-items, vec-len, vec-cap};
 ghost use Rattle.std.specs.Vec.{made};
+ghost use Rattle.std.specs.declared.option.Option.the-variants.{None};
 ghost use Rattle.faults.specs.Causes.{fault-of};
 ghost use Rattle.board.specs.Invariant.{departures-below};
-ghost use Rattle.board.specs.Ledger.{nothing, open-fault, open-after};
+ghost use Rattle.board.specs.Ledger.{nothing, open-fault, open-after, early-add-fault, constraint-of, add-fault, add-after, next-number, CircuitLaw};
 ghost use Rattle.board.specs.Holding.{ledger-of};
 use crate::Board;
 use crate::BoardFault;
+use crate::circuits::closes_circuit;
 use std::alloc::AllocError;
 use std::alloc::Global;
+use timetable::Addition;
+use timetable::Constraint;
 use timetable::ConstraintTable;
+use timetable::Letter;
+use timetable::State;
 
 // Whether each departure is below the period.
 fn departures_below(period: u32, departures: &[u32]) -> bool
@@ -35,6 +41,46 @@ fn keep_departures(list: &mut Vec<u32>, departures: &[u32])
 {
     for d in departures {
         list.push_reserved(*d);
+    }
+}
+
+// The lowest cause of refusing an addition before its circuits are looked at.
+fn range_fault(events: u8, count: usize, addition: &Addition) -> Option<BoardFault>
+    ensures { λ r. ⌜ r ≡ early-add-fault events count (now (addition .entry)) None ⌝ }
+{
+    if addition.from >= events || addition.to >= events {
+        return Some(BoardFault::Event);
+    }
+    if addition.time > 14400 {
+        return Some(BoardFault::Time);
+    }
+    if addition.tokens > 7 {
+        return Some(BoardFault::Tokens);
+    }
+    if addition.days < 1 || addition.days > 127 {
+        return Some(BoardFault::Days);
+    }
+    if Letter::of_byte(addition.letter).is_none() {
+        return Some(BoardFault::Letter);
+    }
+    if count >= 128 {
+        return Some(BoardFault::Full);
+    }
+    None
+}
+
+// The constraint of an addition, standing.
+fn standing(addition: &Addition) -> Constraint
+    ensures { λ r. ⌜ r ≡ constraint-of (now (addition .entry)) ⌝ }
+{
+    Constraint {
+        from: addition.from,
+        to: addition.to,
+        time: addition.time,
+        tokens: addition.tokens,
+        days: addition.days,
+        letter: Letter::of_byte(addition.letter).unwrap_or(Letter::Running),
+        state: State::Standing,
     }
 }
 
@@ -87,5 +133,40 @@ impl Board {
         self.period = period;
         self.opened = true;
         Ok(())
+    }
+
+    // Adds a constraint, standing, and answers its number: the count of additions accepted before. Refused with 1 and with 6 to 12.
+    pub fn add(&mut self, addition: Addition) -> Result<u8, BoardFault>
+        ensures reply { λ r. ⌜ fault-of r ≡ add-fault (ledger-of (now (self .entry))) addition ⌝ }
+        ensures number { λ r. ⌜ made r (λ k. k ≡ next-number (ledger-of (now (self .entry)))) ⌝ }
+        ensures after { λ _. ⌜ ledger-of (now (self .exit)) ≡ add-after (ledger-of (now (self .entry))) addition ⌝ }
+        ensures law { λ r. ⌜ CircuitLaw (ledger-of (now (self .entry))) addition (fault-of r) ⌝ }
+    {
+        self.append(addition)
+    }
+
+    fn append(&mut self, addition: Addition) -> Result<u8, BoardFault>
+        ensures reply { λ r. ⌜ fault-of r ≡ add-fault (ledger-of (now (self .entry))) addition ⌝ }
+        ensures number { λ r. ⌜ made r (λ k. k ≡ next-number (ledger-of (now (self .entry)))) ⌝ }
+        ensures after { λ _. ⌜ ledger-of (now (self .exit)) ≡ add-after (ledger-of (now (self .entry))) addition ⌝ }
+    {
+        if !self.opened {
+            return Err(BoardFault::New);
+        }
+        let count = self.table.rows.len();
+        if let Some(fault) = range_fault(self.events, count, &addition) {
+            return Err(fault);
+        }
+        let events = usize::from(self.events);
+        if closes_circuit(events, self.table.rows.as_slice(), &addition) {
+            return Err(BoardFault::Circuit);
+        }
+        match self.table.push(standing(&addition)) {
+            Ok(()) => {
+                self.current = false;
+                Ok(count as u8)
+            }
+            Err(_) => unreachable(),
+        }
     }
 }

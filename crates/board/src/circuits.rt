@@ -66,3 +66,38 @@ fn days_between(
         Err(_) => unreachable(),
     }
 }
+
+// Whether an addition whose values are in range would close a token-free circuit with the constraints standing or suspended.
+pub(crate) fn closes_circuit(n: usize, rows: &[Constraint], addition: &Addition) -> bool
+    requires range { ⌜ in-range n ≡ true ⌝ }
+    requires rows { ⌜ all-in-range n (now rows) ≡ true ⌝ }
+    requires few { ⌜ length (now rows) ≤ 128 ⌝ }
+    requires from { ⌜ now addition .from < n ⌝ }
+    requires to { ⌜ now addition .to < n ⌝ }
+    requires days { ⌜ now addition .days < 128 ⌝ }
+    ensures { λ r. ⌜ r ≡ closes-circuit n (now (rows .entry)) (now (addition .entry)) ⌝ }
+{
+    if addition.tokens != 0 {
+        return false;
+    }
+    let count = rows.len();
+    let nothing = DaysWeight::none();
+    let mut links = [Link { from: 0, to: 0 }; 128];
+    let mut days = [nothing; 128];
+    let mut cells = [nothing; 1024];
+    let mut spare = [nothing; 32];
+    let back = days_between(
+        n,
+        rows,
+        addition.to as usize,
+        addition.from as usize,
+        &mut links[0..count],
+        &mut days[0..count],
+        &mut cells[0..n * n],
+        &mut spare[0..n],
+    );
+    match Days::of_mask(addition.days) {
+        Some(own) => own.meets(back),
+        None => unreachable(),
+    }
+}

@@ -1,11 +1,12 @@
 -- Days keeps the laws: each by cases on what a weekday has, and functions that agree on every weekday are equal.
 use mathlib.Core.Path.{_≡_, refl, ap, fun-ext}
 use mathlib.Core.Bool.{Bool, true, false, cond, not, _||_, _&&_}
+use mathlib.Core.Logic.{_⊎_, inl, inr, ⊎-elim}
 use native.Mathlib.Omega.{arith}
 use Rattle.std.specs.Orderings.{Decides}
 use Rattle.std.proofs.shelf.Ways.{decides-and, decides-like}
 use Rattle.weights.specs.Kinds.{Kind, Laws, Idempotent}
-use Rattle.weights.specs.DaysKind.{Weekday, monday, tuesday, wednesday, thursday, friday, saturday, sunday, every-weekday, days-kind}
+use Rattle.weights.specs.DaysKind.{Weekday, monday, tuesday, wednesday, thursday, friday, saturday, sunday, every-weekday, some-weekday, days-kind}
 
 or-assoc : (a b c : Bool) → ((a || b) || c) ≡ (a || (b || c))
 or-assoc true b c = refl
@@ -99,3 +100,25 @@ days-laws = record {
 
 pub days-idempotent : Idempotent days-kind
 days-idempotent a = fun-ext (λ d. or-same (a d))
+
+or-cases : (a b : Bool) → (a || b) ≡ true → (a ≡ true) ⊎ (b ≡ true)
+or-cases true b e = inl refl
+or-cases false b e = inr e
+
+or-true : (b : Bool) → (b || true) ≡ true
+or-true true = refl
+or-true false = refl
+
+-- a test that passes on some weekday passes on one that can be named
+pub some-day : (t : Weekday → Bool) → some-weekday t ≡ true → (d : Weekday) × (t d ≡ true)
+some-day t e =
+    ⊎-elim (λ h. (monday, h)) (λ e1. ⊎-elim (λ h. (tuesday, h)) (λ e2. ⊎-elim (λ h. (wednesday, h)) (λ e3. ⊎-elim (λ h. (thursday, h)) (λ e4. ⊎-elim (λ h. (friday, h)) (λ e5. ⊎-elim (λ h. (saturday, h)) (λ h. (sunday, h)) (or-cases _ _ e5)) (or-cases _ _ e4)) (or-cases _ _ e3)) (or-cases _ _ e2)) (or-cases _ _ e1)) (or-cases _ _ e)
+
+pub some-from-day : (t : Weekday → Bool) (d : Weekday) → t d ≡ true → some-weekday t ≡ true
+some-from-day t monday h = simp h
+some-from-day t tuesday h = simp (h, or-true)
+some-from-day t wednesday h = simp (h, or-true)
+some-from-day t thursday h = simp (h, or-true)
+some-from-day t friday h = simp (h, or-true)
+some-from-day t saturday h = simp (h, or-true)
+some-from-day t sunday h = simp (h, or-true)

@@ -1,0 +1,184 @@
+-- An addition that passes every test is in range and keeps the board sound; and it closes a circuit exactly when the Days table
+-- says so.
+use mathlib.Core.Path.{_≡_, refl, sym, ap, subst, _∙_}
+use mathlib.Core.Bool.{Bool, true, false, cond, not, _&&_}
+use mathlib.Core.List.{List, [], _∷_, _++_}
+use mathlib.Core.Logic.{_↔_}
+use Prim.Native.Nat.{ℕ, _<_, _≤_}
+use native.Mathlib.Omega.{arith}
+use lib.Dec.{eqb, leb, ltb}
+use lib.ListN.{length}
+use borrow.Author.Tests.{clash}
+use Rattle.std.proofs.shelf.Ways.{tells}
+use Rattle.std.specs.Options.{isSome}
+use Rattle.std.specs.declared.option.Option.{Option}
+use Rattle.std.specs.declared.option.Option.the-variants.{Some, None}
+use Rattle.faults.specs.Causes.{unless}
+use Rattle.weights.specs.DaysKind.{Weekday, days-of, some-weekday}
+use Rattle.weights.proofs.DaysLaws.{some-day, some-from-day}
+use Rattle.runs.specs.Nets.{In, IsCircuit}
+use Rattle.runs.specs.Tables.{every}
+use Rattle.runs.proofs.Members.{in?}
+use Rattle.timetable.specs.declared.Addition.{Addition}
+use Rattle.timetable.specs.declared.Constraint.{Constraint}
+use Rattle.timetable.specs.Words.{letter-of, free-net}
+use Rattle.board.specs.declared.fault.BoardFault.{BoardFault}
+use Rattle.board.specs.declared.fault.BoardFault.the-variants.{Event, Time, Tokens, Days, Letter, Full, Circuit}
+use Rattle.board.specs.Circuits.{NoFreeCircuit, days-between, closes-circuit, FreeCircuitThrough}
+use Rattle.board.specs.Invariant.{constraint-in-range, all-in-range}
+use Rattle.board.specs.Ledger.{Held, Ledger, nothing, holding, constraint-of, early-add-fault, add-fault, with-row, unless-refused, add-after, next-number, CircuitLaw}
+use Rattle.board.proofs.FreeRuns.{between-run, run-between}
+use Rattle.board.proofs.FreeCircuits.{circuit-from-run, run-from-circuit, old-circuit}
+
+-- every test before the circuits passed
+pub record Passed (events count : ℕ) (a : Addition) : Type 0 where
+  pub from : a .from < events
+  pub to : a .to < events
+  pub time : a .time ≤ 14400
+  pub tokens : a .tokens ≤ 7
+  pub some-days : 1 ≤ a .days
+  pub days : a .days ≤ 127
+  pub letter : isSome (letter-of (a .letter)) ≡ true
+  pub room : count < 128
+
+unless-none : (b : Bool) (f : BoardFault) (o : Option BoardFault) → unless b f o ≡ None → (b ≡ true) × (o ≡ None)
+unless-none true f o e = (refl, e)
+unless-none false f o e = absurd (let z : _≡_ {A = ℕ} 0 1 = cc in omega arith)
+
+pub passed : (events count : ℕ) (a : Addition) → early-add-fault events count a None ≡ None → Passed events count a
+passed events count a e =
+    let e1 = unless-none (ltb (a .from) events && ltb (a .to) events) Event _ e in
+    let e2 = unless-none (leb (a .time) 14400) Time _ (e1 .1) in
+    let e3 = unless-none (leb (a .tokens) 7) Tokens _ (e2 .1) in
+    let e4 = unless-none (leb 1 (a .days) && leb (a .days) 127) Days _ (e3 .1) in
+    let e5 = unless-none (isSome (letter-of (a .letter))) Letter _ (e4 .1) in
+    let e6 = unless-none (ltb count 128) Full None (e5 .1) in
+    let t1 = e1 .0 in
+    let t2 = e2 .0 in
+    let t3 = e3 .0 in
+    let t4 = e4 .0 in
+    let t6 = e6 .0 in
+    record {
+      from = grind (arith, tells);
+      to = grind (arith, tells);
+      time = grind (arith, tells);
+      tokens = grind (arith, tells);
+      some-days = grind (arith, tells);
+      days = grind (arith, tells);
+      letter = e5 .0;
+      room = grind (arith, tells);
+    }
+
+-- with the tests before it passed, the fault is the circuits'
+pub only-circuits : (events count : ℕ) (a : Addition) (next : Option BoardFault) → early-add-fault events count a None ≡ None → early-add-fault events count a next ≡ next
+only-circuits events count a next e =
+    let p = passed events count a e in
+    let e1 = unless-none (ltb (a .from) events && ltb (a .to) events) Event _ e in
+    let e2 = unless-none (leb (a .time) 14400) Time _ (e1 .1) in
+    let e3 = unless-none (leb (a .tokens) 7) Tokens _ (e2 .1) in
+    let e4 = unless-none (leb 1 (a .days) && leb (a .days) 127) Days _ (e3 .1) in
+    let e5 = unless-none (isSome (letter-of (a .letter))) Letter _ (e4 .1) in
+    let e6 = unless-none (ltb count 128) Full None (e5 .1) in
+    rw (e1 .0, e2 .0, e3 .0, e4 .0, e5 .0, e6 .0)
+
+-- the range of the constraint that an addition makes
+pub passed-in-range : (events count : ℕ) (a : Addition) → Passed events count a → constraint-in-range events (constraint-of a) ≡ true
+passed-in-range events count a p =
+    let h1 = p .from in
+    let h2 = p .to in
+    let h3 = p .time in
+    let h4 = p .tokens in
+    let h5 = p .some-days in
+    let h6 = p .days in
+    grind (arith, tells)
+
+pub range-more : (events : ℕ) (rows : List Constraint) (c : Constraint) → all-in-range events rows ≡ true → constraint-in-range events c ≡ true → all-in-range events (rows ++ c ∷ []) ≡ true
+range-more events [] c all one = ap (λ t. t && true) one
+range-more events (x ∷ rows) c all one = go (λ rest. range-more events rows c rest one) (constraint-in-range events x) refl all
+  where
+    go : (all-in-range events rows ≡ true → all-in-range events (rows ++ c ∷ []) ≡ true) → (t : Bool) → constraint-in-range events x ≡ t → (t && all-in-range events rows) ≡ true → (constraint-in-range events x && all-in-range events (rows ++ c ∷ [])) ≡ true
+    go ih true is rest = ap (λ t. t && all-in-range events (rows ++ c ∷ [])) is ∙ ih rest
+    go ih false is rest = absurd (clash rest)
+
+module _ (n : ℕ) (rows : List Constraint) (a : Addition) (range : all-in-range n rows ≡ true) (from : a .from < n) where
+  -- the new constraint is token-free on a day exactly when it has no token and the day
+  abbrev back : Weekday → Bool
+  back d = days-of (a .days) d && days-between n rows (a .to) (a .from) d
+
+  and-both : (x y : Bool) → x ≡ true → y ≡ true → (x && y) ≡ true
+  and-both true y p q = q
+  and-both false y p q = p
+
+  and-first : (x y : Bool) → (x && y) ≡ true → x ≡ true
+  and-first true y e = refl
+  and-first false y e = e
+
+  and-second : (x y : Bool) → (x && y) ≡ true → y ≡ true
+  and-second true y e = e
+  and-second false y e = absurd (clash e)
+
+  pub closes-so : closes-circuit n rows a ≡ true → FreeCircuitThrough rows (constraint-of a)
+  closes-so e =
+      let token-free = and-first (eqb (a .tokens) 0) (some-weekday back) e in
+      let t = some-day back (and-second (eqb (a .tokens) 0) (some-weekday back) e) in
+      let on = and-first (days-of (a .days) (t .0)) (days-between n rows (a .to) (a .from) (t .0)) (t .1) in
+      let run = between-run (t .0) rows n (a .to) (a .from) (and-second (days-of (a .days) (t .0)) (days-between n rows (a .to) (a .from) (t .0)) (t .1)) in
+      let c = circuit-from-run (t .0) rows (constraint-of a) (and-both (eqb (a .tokens) 0) (days-of (a .days) (t .0)) token-free on) (run .0) (run .1) in
+      (t .0, c .0, c .1, c .2, c .3)
+
+  closes-from : (d : Weekday) (i : ℕ) (circuit : List ℕ) → IsCircuit (free-net d (rows ++ constraint-of a ∷ [])) i circuit → In (length rows) circuit → closes-circuit n rows a ≡ true
+  closes-from d i circuit c h =
+      let t = run-from-circuit d rows (constraint-of a) i circuit c h in
+      let token-free = and-first (eqb (a .tokens) 0) (days-of (a .days) d) (t .0) in
+      let on = and-second (eqb (a .tokens) 0) (days-of (a .days) d) (t .0) in
+      let leads = run-between d rows n (a .to) (a .from) (t .1 .0) range from (t .1 .1) in
+      and-both (eqb (a .tokens) 0) (some-weekday back) token-free (some-from-day back d (and-both (days-of (a .days) d) (days-between n rows (a .to) (a .from) d) on leads))
+
+  pub closes-iff : (closes-circuit n rows a ≡ true) ↔ FreeCircuitThrough rows (constraint-of a)
+  closes-iff = (closes-so, λ t. closes-from (t .0) (t .1) (t .2) (t .3) (t .4))
+
+  -- an addition that closes no circuit keeps the board sound
+  pub sound-more : closes-circuit n rows a ≡ false → NoFreeCircuit rows → NoFreeCircuit (rows ++ constraint-of a ∷ [])
+  sound-more closed-none sound d i circuit c = go (in? (length rows) circuit)
+    where
+      go : Dec (In (length rows) circuit) → ⊥
+      go (yes h) = clash (sym closed-none ∙ closes-from d i circuit c h)
+      go (no h) = sound d i circuit (old-circuit d rows (constraint-of a) i circuit c h)
+
+circuit-fault : (t : Bool) → (unless (not t) Circuit None ≡ Some Circuit) ↔ (t ≡ true)
+circuit-fault true = (λ e. refl, λ e. refl)
+circuit-fault false = (λ e. absurd (let z : _≡_ {A = ℕ} 0 1 = cc in omega arith), λ e. absurd (clash e))
+
+-- what the fault of an addition says of circuits, on a board whose constraints are in range
+law-held : (h : Held) (a : Addition) → all-in-range (h .events) (h .rows) ≡ true → CircuitLaw (holding h) a (add-fault (holding h) a)
+law-held h a range e =
+    let p = passed (h .events) (length (h .rows)) a e in
+    let closes = closes-iff (h .events) (h .rows) a range (p .from) in
+    let only = only-circuits (h .events) (length (h .rows)) a (unless (not (closes-circuit (h .events) (h .rows) a)) Circuit None) e in
+    let fault = circuit-fault (closes-circuit (h .events) (h .rows) a) in
+    (λ refused. closes .0 (fault .0 (sym only ∙ refused)), λ through. only ∙ fault .1 (closes .1 through))
+
+pub circuit-law : (opened : Bool) (h : Held) (a : Addition) → all-in-range (h .events) (h .rows) ≡ true → CircuitLaw (cond opened (holding h) nothing) a (add-fault (cond opened (holding h) nothing) a)
+circuit-law true h a range = law-held h a range
+circuit-law false h a range = tt
+
+-- what an addition is answered and leaves on an opened board, once the tests before the circuits passed
+module _ (l : Ledger) (h : Held) (a : Addition) (held : l ≡ holding h) (early : early-add-fault (h .events) (length (h .rows)) a None ≡ None) where
+  fault-is : (t : Bool) → closes-circuit (h .events) (h .rows) a ≡ t → add-fault l a ≡ unless (not t) Circuit None
+  fault-is t closes = ap (λ x. add-fault x a) held ∙ only-circuits (h .events) (length (h .rows)) a (unless (not (closes-circuit (h .events) (h .rows) a)) Circuit None) early ∙ ap (λ b. unless (not b) Circuit None) closes
+
+  pub circuit-refused : closes-circuit (h .events) (h .rows) a ≡ true → (Some Circuit ≡ add-fault l a) × (l ≡ add-after l a)
+  circuit-refused closes =
+      let fault : add-fault l a ≡ Some Circuit = fault-is true closes in
+      (sym fault, sym (ap (λ f. unless-refused f (with-row l (constraint-of a)) l) fault))
+
+  pub addition-accepted : closes-circuit (h .events) (h .rows) a ≡ false → (rows : List Constraint) → rows ≡ h .rows ++ constraint-of a ∷ []
+      → (None ≡ add-fault l a) × (length (h .rows) ≡ next-number l) × (holding (record { mark = h .mark; events = h .events; period = h .period; departures = h .departures; rows = rows }) ≡ add-after l a)
+  addition-accepted closes rows grown =
+      let fault : add-fault l a ≡ None = fault-is false closes in
+      (
+        sym fault,
+        sym (ap next-number held),
+        ap (λ x. holding (record { mark = h .mark; events = h .events; period = h .period; departures = h .departures; rows = x })) grown
+        ∙ sym (ap (λ x. with-row x (constraint-of a)) held) ∙ sym (ap (λ f. unless-refused f (with-row l (constraint-of a)) l) fault),
+      )

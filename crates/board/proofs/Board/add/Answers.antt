@@ -1,0 +1,16 @@
+use mathlib.Core.Path.{sym, subst}
+use Rattle.board.specs.Ledger.{CircuitLaw}
+use Rattle.board.specs.Holding.{held-by, ledger-of}
+use Rattle.board.proofs.Additions.{circuit-law}
+use Rattle.board.proofs.Board.add.Needs as need
+
+pub returns : need.returns
+returns c =
+    let done = c .append .ensures in
+    let board = c .args .self .now in
+    record {
+      reply = done .reply;
+      number = done .number;
+      after = done .after;
+      law = subst (CircuitLaw (ledger-of board) (c .args .addition)) (sym (done .reply)) (circuit-law (board .opened) (held-by board) (c .args .addition) (board .ranges));
+    }
