@@ -4,3 +4,4 @@ pub mod DaysTable
 pub mod FreeRuns
 pub mod FreeCircuits
 pub mod Additions
+pub mod Loading

@@ -3,3 +3,4 @@ pub mod Circuits
 pub mod Ledger
 pub mod Invariant
 pub mod Holding
+pub mod Loads

@@ -11,8 +11,10 @@ use timetable::ConstraintTable;
 mod calls;
 mod circuits;
 mod fault;
+mod load;
 
 pub use fault::BoardFault;
+pub use load::report_of;
 
 // A board is new until it is opened. All memory that it will ever want is reserved when it is made.
 #[derive(Drop)]
