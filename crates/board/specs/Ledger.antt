@@ -17,6 +17,7 @@ use Rattle.timetable.specs.declared.Letter.the-variants.{Running}
 use Rattle.timetable.specs.declared.State.the-variants.{Standing}
 use Rattle.timetable.specs.Words.{letter-of}
 use Rattle.board.specs.declared.fault.BoardFault.{BoardFault}
+use Rattle.board.specs.declared.summary.Summary.{Summary}
 use Rattle.board.specs.declared.fault.BoardFault.the-variants.{New, Opened, EventCount, Period, Departure, Event, Time, Tokens, Days, Letter, Full, Circuit, Length}
 use Rattle.board.specs.Circuits.{closes-circuit, FreeCircuitThrough}
 use Rattle.board.specs.Invariant.{period-in-range, departures-below}
@@ -92,3 +93,8 @@ CircuitLaw (holding h) a fault = early-add-fault (h .events) (length (h .rows)) 
 abbrev pub next-number : Ledger → ℕ
 next-number nothing = 0
 next-number (holding h) = length (h .rows)
+
+-- what there is to say of an opened board at a glance
+abbrev pub summary-of : Ledger → Option Summary
+summary-of nothing = None
+summary-of (holding h) = Some (record { events = h .events; period = h .period; constraints = length (h .rows) })

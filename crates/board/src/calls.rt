@@ -7,10 +7,11 @@ ghost use Rattle.std.specs.Vec.{made};
 ghost use Rattle.std.specs.declared.option.Option.the-variants.{None};
 ghost use Rattle.faults.specs.Causes.{fault-of};
 ghost use Rattle.board.specs.Invariant.{departures-below};
-ghost use Rattle.board.specs.Ledger.{nothing, open-fault, open-after, early-add-fault, constraint-of, add-fault, add-after, next-number, CircuitLaw};
+ghost use Rattle.board.specs.Ledger.{nothing, open-fault, open-after, early-add-fault, constraint-of, add-fault, add-after, next-number, CircuitLaw, summary-of};
 ghost use Rattle.board.specs.Holding.{ledger-of};
 use crate::Board;
 use crate::BoardFault;
+use crate::Summary;
 use crate::circuits::closes_circuit;
 use std::alloc::AllocError;
 use std::alloc::Global;
@@ -168,5 +169,19 @@ impl Board {
             }
             Err(_) => unreachable(),
         }
+    }
+
+    // The number of events, the period and the count of accepted additions of an opened board; nothing of a new one.
+    pub fn summary(&self) -> Option<Summary>
+        ensures { λ r. ⌜ r ≡ summary-of (ledger-of (now (self .entry))) ⌝ }
+    {
+        if !self.opened {
+            return None;
+        }
+        Some(Summary {
+            events: self.events,
+            period: self.period,
+            constraints: self.table.rows.len(),
+        })
     }
 }

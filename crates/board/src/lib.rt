@@ -12,9 +12,11 @@ mod calls;
 mod circuits;
 mod fault;
 mod load;
+mod summary;
 
 pub use fault::BoardFault;
 pub use load::report_of;
+pub use summary::Summary;
 
 // A board is new until it is opened. All memory that it will ever want is reserved when it is made.
 #[derive(Drop)]

@@ -1,10 +1,10 @@
-// Reads a board file from standard input and prints its fields.
+// Reads a board file from standard input and reports on its board, or says why the file is refused.
 ghost use Prim.Native.Nat.{_≤_};
 ghost use lib.ListN.{length};
 ghost use Rattle.std.specs.Vec.{made};
-use frames::Contents;
-use frames::Ending;
-use frames::walk;
+use board::Board;
+use board::report_of;
+use faults::ReportDisplay;
 use std::io;
 use std::io::Read;
 
@@ -29,19 +29,23 @@ fn fill(input: &mut impl Read, page: &mut [u8]) -> io::Result<usize>
     Ok(len)
 }
 
-fn report(rt: &LibcRuntime, walked: &Contents) -> io::Result<()> {
-    for field in walked.fields.iter() {
-        println!(rt, "field {} {} {}", field.place, field.tag, field.length)?;
-    }
-    match walked.ending {
-        Ending::Whole(place) => println!(rt, "end {place}"),
-        Ending::Cut(place) => println!(rt, "cut {place}"),
-    }
+// Prints what there is to say of an opened board.
+fn print_report(rt: &LibcRuntime, board: &Board) -> io::Result<()> {
+    let Some(summary) = board.summary() else {
+        return Ok(());
+    };
+    println!(rt, "events {} period {} constraints {}", summary.events, summary.period, summary.constraints)
 }
 
 fn main(rt: LibcRuntime) -> io::Result<()> {
     let mut page = [0u8; LIMIT];
     let len = fill(&mut rt.stdin(), &mut page)?;
-    let walked = walk(rt.alloc(), &page[0..len])?;
-    report(&rt, &walked)
+    let mut board = Board::new(rt.alloc())?;
+    match board.load(&page[0..len]) {
+        Ok(()) => print_report(&rt, &board),
+        Err(fault) => {
+            let report = report_of(fault);
+            println!(rt, "refused {report}")
+        }
+    }
 }
