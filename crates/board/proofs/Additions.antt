@@ -175,10 +175,9 @@ module _ (l : Ledger) (h : Held) (a : Addition) (held : l ≡ holding h) (early 
   pub addition-accepted : closes-circuit (h .events) (h .rows) a ≡ false → (rows : List Constraint) → rows ≡ h .rows ++ constraint-of a ∷ []
       → (None ≡ add-fault l a) × (length (h .rows) ≡ next-number l) × (holding (record { mark = h .mark; events = h .events; period = h .period; departures = h .departures; rows = rows }) ≡ add-after l a)
   addition-accepted closes rows grown =
-      let fault : add-fault l a ≡ None = fault-is false closes in
-      (
+      let fault : add-fault l a ≡ None = fault-is false closes in (
         sym fault,
         sym (ap next-number held),
         ap (λ x. holding (record { mark = h .mark; events = h .events; period = h .period; departures = h .departures; rows = x })) grown
-        ∙ sym (ap (λ x. with-row x (constraint-of a)) held) ∙ sym (ap (λ f. unless-refused f (with-row l (constraint-of a)) l) fault),
+            ∙ sym (ap (λ x. with-row x (constraint-of a)) held) ∙ sym (ap (λ f. unless-refused f (with-row l (constraint-of a)) l) fault),
       )

@@ -63,8 +63,7 @@ module _ (d : Weekday) (rows : List Constraint) (new : Constraint) where
       let t = free-link d more k (is .0) in
       let ne : k ≡ number → ⊥ = λ e. without (inl (sym e)) in
       let lt : k < number = omega (arith, t .0, longer) in
-      let same : row-at more k ≡ row-at rows k = row-kept rows k lt in
-      (
+      let same : row-at more k ≡ row-at rows k = row-kept rows k lt in (
         link-free d rows k lt (ap (free-on d) (sym same) ∙ t .1),
         ap (λ c. c .from) (sym same) ∙ is .1,
         to-old (row-at rows k .to) j run (λ m. without (inr m)) (subst (λ c. IsRun new-net (c .to) j run) same (is .2)),
@@ -74,8 +73,7 @@ module _ (d : Weekday) (rows : List Constraint) (new : Constraint) where
   to-new i j [] is = is
   to-new i j (k ∷ run) is =
       let t = free-link d rows k (is .0) in
-      let same : row-at more k ≡ row-at rows k = row-kept rows k (t .0) in
-      (
+      let same : row-at more k ≡ row-at rows k = row-kept rows k (t .0) in (
         link-free d more k (omega (arith, t .0, longer)) (ap (free-on d) same ∙ t .1),
         ap (λ c. c .from) same ∙ is .1,
         subst (λ c. IsRun new-net (c .to) j run) (sym same) (to-new (row-at rows k .to) j run (is .2)),
@@ -92,8 +90,7 @@ module _ (d : Weekday) (rows : List Constraint) (new : Constraint) where
   circuit-from-run free run is =
       let s : Simple old-net (new .to) (new .from) = simple-run old-net (new .to) (new .from) run is in
       let events = same-events (new .to) (new .from) (s .run) (s .is-run) in
-      let first : row-at more number .from ≡ new .from = ap (λ c. c .from) row-new in
-      (
+      let first : row-at more number .from ≡ new .from = ap (λ c. c .from) row-new in (
         new .from,
         number ∷ s .run,
         (
@@ -117,8 +114,7 @@ module _ (d : Weekday) (rows : List Constraint) (new : Constraint) where
       let whole : IsRun new-net (row-at more number .to) (row-at more number .from) (t .after ++ t .before) = run-append new-net (row-at more number .to) i (row-at more number .from) (t .after) (t .before) (t .after-run) (t .before-run) in
       let apart : Distinct (map (new-net .from) (t .before) ++ row-at more number .from ∷ map (new-net .from) (t .after)) = subst Distinct (ap (map (new-net .from)) (t .whole) ∙ map-append (new-net .from) (t .before) (number ∷ t .after)) (c .2) in
       let without : In number (t .after ++ t .before) → ⊥ = λ m. distinct-apart (row-at more number .from) (map (new-net .from) (t .before)) (map (new-net .from) (t .after)) apart
-          (subst (λ es. In (row-at more number .from) es) (map-append (new-net .from) (t .after) (t .before)) (in-map (new-net .from) number (t .after ++ t .before) m)) in
-      (
+      (subst (λ es. In (row-at more number .from) es) (map-append (new-net .from) (t .after) (t .before)) (in-map (new-net .from) number (t .after ++ t .before) m)) in (
         ap (free-on d) (sym row-new) ∙ free-link d more number (link-of-circuit i i circuit h (c .0)) .1,
         (
           t .after ++ t .before,

@@ -65,8 +65,7 @@ module _ (d : Weekday) (rows : List Constraint) where
   free-from i j [] is on = is
   free-from i j (k ∷ run) is on =
       let inside : k < 0 + length (map link-of rows) = in-counting k 0 (length (map link-of rows)) (is .0) in
-      let free : free-on d (row-at rows k) ≡ true = ap (λ f. f d) (sym (free-at-is rows k)) ∙ and-first (free-at rows k d) (weigh days-kind (free-at rows) run d) on in
-      (
+      let free : free-on d (row-at rows k) ≡ true = ap (λ f. f d) (sym (free-at-is rows k)) ∙ and-first (free-at rows k d) (weigh days-kind (free-at rows) run d) on in (
         link-free d rows k (omega (arith, length-map rows link-of)) free,
         ap (λ l. l .from) (sym (link-at k)) ∙ is .1,
         free-from (row-at rows k .to) j run (subst (λ l. IsRun all (l .to) j run) (link-at k) (is .2)) (and-second (free-at rows k d) (weigh days-kind (free-at rows) run d) on),
@@ -76,8 +75,7 @@ module _ (d : Weekday) (rows : List Constraint) where
   free-to i j [] is = (is, refl)
   free-to i j (k ∷ run) is =
       let t = free-link d rows k (is .0) in
-      let rest = free-to (row-at rows k .to) j run (is .2) in
-      (
+      let rest = free-to (row-at rows k .to) j run (is .2) in (
         (
           counting-in k 0 (length (map link-of rows)) (omega arith) (omega (arith, length-map rows link-of, t .0)),
           ap (λ l. l .from) (link-at k) ∙ is .1,

@@ -27,7 +27,7 @@ use Rattle.board_file.proofs.Encoding.{loads-encodings}
 use Rattle.board_file.proofs.Steps.{entries-refused, entries-judged, entries-more, entries-ended, entries-trailing, load-opening-refused, load-judged, load-departures-refused, load-begin-refused, load-begun}
 use Rattle.board.specs.declared.fault.BoardFault.{BoardFault}
 use Rattle.board.specs.Ledger.{Held, Ledger, nothing, holding, unless-refused, open-fault, opened-as, open-after, constraint-of, add-fault, with-row, add-after}
-use Rattle.board.specs.Loads.{grown, unless-fault, then-call, head-fault, opened-by, performed-by, load-held, loaded-ledger, load-after, LoadLaw, entries-held}
+use Rattle.board.specs.Loads.{grown, unless-fault, then-call, judged-at-opening, opened-by, performed-by, load-held, loaded-ledger, load-after, LoadLaw, entries-held}
 
 -- what a ledger says of the board that it stands for
 pub held-from : (opened : Bool) (h g : Held) → cond opened (holding h) nothing ≡ holding g → (opened ≡ true) × (h ≡ g)
@@ -77,14 +77,14 @@ pub step-on : (bytes : List ℕ) (start place next : ℕ) (first before after : 
 step-on bytes start place next first before after whole step = sym step ∙ whole
 
 -- the opening with its departures
-module _ (bytes : List ℕ) (o : OpeningRecord) (judged : head-fault o ≡ None) where
+module _ (bytes : List ℕ) (o : OpeningRecord) (judged : judged-at-opening o ≡ None) where
   pub departures-refused : (e : RecordFault) → departures-at (o .events) bytes 10 ≡ Err e → opening-at bytes 0 ≡ Ok o → load-held bytes ≡ Err (Record e)
   unfolding load-held
-  departures-refused e read first = load-departures-refused head-fault opened-by performed-by bytes o e first judged read
+  departures-refused e read first = load-departures-refused judged-at-opening opened-by performed-by bytes o e first judged read
 
   opening-refused : (departures : List ℕ) (f : BoardFault) → departures-at (o .events) bytes 10 ≡ Ok departures → open-fault nothing (o .events) (o .period) departures ≡ Some f → opening-at bytes 0 ≡ Ok o → load-held bytes ≡ Err (Judged 10 f)
   unfolding load-held
-  opening-refused departures f read refused first = load-begin-refused head-fault opened-by performed-by bytes o departures f first judged read (ap (λ x. unless-fault x (opened-as (o .mark) (o .events) (o .period) departures)) refused)
+  opening-refused departures f read refused first = load-begin-refused judged-at-opening opened-by performed-by bytes o departures f first judged read (ap (λ x. unless-fault x (opened-as (o .mark) (o .events) (o .period) departures)) refused)
 
   -- a new board refuses the opening
   pub opening-judged : (l : Ledger) (departures : List ℕ) (f : BoardFault) → l ≡ nothing → departures-at (o .events) bytes 10 ≡ Ok departures → Some f ≡ open-fault l (o .events) (o .period) departures → opening-at bytes 0 ≡ Ok o → load-held bytes ≡ Err (Judged 10 f)
@@ -112,16 +112,16 @@ read-done (Err f) departures before is left = absurd (let z : _≡_ {A = ℕ} 0 
 module _ (bytes : List ℕ) where
   pub file-refused : (e : RecordFault) → opening-at bytes 0 ≡ Err e → load-held bytes ≡ Err (Record e)
   unfolding load-held
-  file-refused e first = load-opening-refused head-fault opened-by performed-by bytes e first
+  file-refused e first = load-opening-refused judged-at-opening opened-by performed-by bytes e first
 
-  pub file-judged : (o : OpeningRecord) (f : BoardFault) → opening-at bytes 0 ≡ Ok o → head-fault o ≡ Some f → load-held bytes ≡ Err (Judged 0 f)
+  pub file-judged : (o : OpeningRecord) (f : BoardFault) → opening-at bytes 0 ≡ Ok o → judged-at-opening o ≡ Some f → load-held bytes ≡ Err (Judged 0 f)
   unfolding load-held
-  file-judged o f first judged = load-judged head-fault opened-by performed-by bytes o f first judged
+  file-judged o f first judged = load-judged judged-at-opening opened-by performed-by bytes o f first judged
 
-  pub file-begun : (o : OpeningRecord) (departures : List ℕ) (h : Held) → opening-at bytes 0 ≡ Ok o → head-fault o ≡ None → departures-at (o .events) bytes 10 ≡ Ok departures → opened-by o departures ≡ Ok h
+  pub file-begun : (o : OpeningRecord) (departures : List ℕ) (h : Held) → opening-at bytes 0 ≡ Ok o → judged-at-opening o ≡ None → departures-at (o .events) bytes 10 ≡ Ok departures → opened-by o departures ≡ Ok h
       → load-held bytes ≡ entries-held bytes (13 + 4 * o .events) h
   unfolding load-held entries-held
-  file-begun o departures h first judged read begun = load-begun head-fault opened-by performed-by bytes (length bytes) o departures h first judged read begun (omega arith)
+  file-begun o departures h first judged read begun = load-begun judged-at-opening opened-by performed-by bytes (length bytes) o departures h first judged read begun (omega arith)
 
   loaded-so : (q : Result Held (LoadFault BoardFault)) (h : Held) → loaded-ledger q ≡ holding h → q ≡ Ok h
   loaded-so (Ok g) h e = let same : g ≡ h = cc in ap (λ (x : Held). Ok x) same
@@ -131,8 +131,8 @@ module _ (bytes : List ℕ) where
   law-new : Bytes bytes → (after : Ledger) → after ≡ loaded-ledger (load-held bytes) → LoadLaw nothing bytes after
   unfolding load-held
   law-new small after left h = (
-    λ held. loads-encodings head-fault opened-by performed-by bytes small h .0 (loaded-so (load-held bytes) h (sym left ∙ held)),
-    λ accepted. left ∙ ap loaded-ledger (loads-encodings head-fault opened-by performed-by bytes small h .1 accepted),
+    λ held. loads-encodings judged-at-opening opened-by performed-by bytes small h .0 (loaded-so (load-held bytes) h (sym left ∙ held)),
+    λ accepted. left ∙ ap loaded-ledger (loads-encodings judged-at-opening opened-by performed-by bytes small h .1 accepted),
   )
 
   pub load-law : Bytes bytes → (opened : Bool) (h : Held) (after : Ledger) → after ≡ load-after (cond opened (holding h) nothing) bytes → LoadLaw (cond opened (holding h) nothing) bytes after

@@ -7,7 +7,11 @@ use native.Mathlib.Omega.{arith}
 use lib.Dec.{eqb, leb}
 use lib.ListN.{length}
 use Rattle.std.proofs.shelf.Ways.{tells}
+use Rattle.std.specs.declared.option.Option.{Option}
 use Rattle.std.specs.declared.option.Option.the-variants.{None}
+use Rattle.faults.specs.Causes.{unless}
+use Rattle.board.specs.declared.fault.BoardFault.{BoardFault}
+use Rattle.board.specs.declared.fault.BoardFault.the-variants.{EventCount, Period, Departure, Length}
 use Rattle.timetable.specs.declared.Constraint.{Constraint}
 use Rattle.runs.specs.Tables.{in-range}
 use Rattle.board.specs.Invariant.{period-in-range, departures-below, opening-in-range}
@@ -23,30 +27,37 @@ opening-events events period departures e = go (in-range events) e
     go true h = refl
     go false h = h
 
-module _ (events period : ℕ) (departures : List ℕ) (some : 1 ≤ events) (few : events ≤ 32) (runs : 1 ≤ period) (short : period ≤ 86400) (below : true ≡ departures-below period departures) (long : length departures ≡ events) where
-  range : in-range events ≡ true
-  range = grind (arith, tells)
+unless-none : (b : Bool) (f : BoardFault) (o : Option BoardFault) → unless b f o ≡ None → (b ≡ true) × (o ≡ None)
+unless-none true f o e = (refl, e)
+unless-none false f o e = absurd (let z : _≡_ {A = ℕ} 0 1 = cc in omega arith)
 
-  period-range : period-in-range period ≡ true
-  period-range = grind (arith, tells)
-
-  length-right : eqb (length departures) events ≡ true
-  length-right = grind (arith, tells)
-
+module _ (events period : ℕ) (departures : List ℕ) (accepted : open-fault nothing events period departures ≡ None) where
+  -- the values of an accepted opening are in range
   pub opening-ok : opening-in-range events period departures ≡ true
-  opening-ok = rw (range, period-range, ← below, length-right)
+  opening-ok =
+      let a = unless-none (in-range events) EventCount _ accepted in
+      let b = unless-none (period-in-range period) Period _ (a .1) in
+      let c = unless-none (departures-below period departures) Departure _ (b .1) in
+      let d = unless-none (eqb (length departures) events) Length None (c .1) in
+      rw (a .0, b .0, c .0, d .0)
 
-  pub opening-accepted : open-fault nothing events period departures ≡ None
-  opening-accepted = rw (range, period-range, ← below, length-right)
+  pub opening-few : length departures ≤ 32
+  opening-few =
+      let a = unless-none (in-range events) EventCount _ accepted in
+      let b = unless-none (period-in-range period) Period _ (a .1) in
+      let c = unless-none (departures-below period departures) Departure _ (b .1) in
+      let d = unless-none (eqb (length departures) events) Length None (c .1) in
+      let range = a .0 in
+      let long = d .0 in
+      grind (arith, tells)
 
   -- what an accepted opening leaves of a new board
   pub opening-leaves : (l : Ledger) (mark : ℕ) (ds : List ℕ) (rows : List Constraint) → l ≡ nothing → ds ≡ departures → rows ≡ []
       → (None ≡ open-fault l events period departures) × (holding (record { mark = mark; events = events; period = period; departures = ds; rows = rows }) ≡ open-after l mark events period departures)
   opening-leaves l mark ds rows new same empty =
-      let accepted : None ≡ open-fault l events period departures = sym (ap (λ x. open-fault x events period departures) new ∙ opening-accepted) in
-      (
-        accepted,
+      let none : None ≡ open-fault l events period departures = sym (ap (λ x. open-fault x events period departures) new ∙ accepted) in (
+        none,
         ap (λ x. holding (record { mark = mark; events = events; period = period; departures = x; rows = rows })) same
-        ∙ ap (λ x. holding (record { mark = mark; events = events; period = period; departures = departures; rows = x })) empty
-        ∙ ap (λ fault. unless-refused fault (holding (opened-as mark events period departures)) l) accepted,
+            ∙ ap (λ x. holding (record { mark = mark; events = events; period = period; departures = departures; rows = x })) empty
+            ∙ ap (λ fault. unless-refused fault (holding (opened-as mark events period departures)) l) none,
       )

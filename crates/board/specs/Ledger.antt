@@ -35,14 +35,14 @@ pub data Ledger : Type 0 where
   nothing : Ledger
   holding : Held → Ledger
 
+-- the first causes of refusing an opening: the number of events and the period
+abbrev pub head-fault : ℕ → ℕ → Option BoardFault → Option BoardFault
+head-fault events period next = unless (in-range events) EventCount (unless (period-in-range period) Period next)
+
 -- the fault of an opening
 abbrev pub open-fault : Ledger → ℕ → ℕ → List ℕ → Option BoardFault
 open-fault (holding h) events period departures = Some Opened
-open-fault nothing events period departures =
-    unless (in-range events) EventCount
-    (unless (period-in-range period) Period
-    (unless (departures-below period departures) Departure
-    (unless (eqb (length departures) events) Length None)))
+open-fault nothing events period departures = head-fault events period (unless (departures-below period departures) Departure (unless (eqb (length departures) events) Length None))
 
 -- an accepted opening sets mark, events, period and departures, and leaves no rows
 abbrev pub opened-as : ℕ → ℕ → ℕ → List ℕ → Held

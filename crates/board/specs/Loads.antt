@@ -8,9 +8,8 @@ use Rattle.std.specs.declared.option.Option.{Option}
 use Rattle.std.specs.declared.option.Option.the-variants.{Some, None}
 use Rattle.std.specs.declared.result.Result.{Result}
 use Rattle.std.specs.declared.result.Result.the-variants.{Ok, Err}
-use Rattle.faults.specs.Causes.{unless, fault-of}
+use Rattle.faults.specs.Causes.{fault-of}
 use Rattle.faults.specs.declared.Report.{Report}
-use Rattle.runs.specs.Tables.{in-range}
 use Rattle.timetable.specs.declared.Addition.{Addition}
 use Rattle.board_file.specs.declared.LoadFault.{LoadFault}
 use Rattle.board_file.specs.declared.LoadFault.the-variants.{Record, Judged}
@@ -19,10 +18,9 @@ use Rattle.board_file.specs.Faults.{record-report}
 use Rattle.board_file.specs.Records.{opening-at, departures-at}
 use Rattle.board_file.specs.Loading.{entries-from, load-file, Accepted}
 use Rattle.board.specs.declared.fault.BoardFault.{BoardFault}
-use Rattle.board.specs.declared.fault.BoardFault.the-variants.{Opened, EventCount, Period}
+use Rattle.board.specs.declared.fault.BoardFault.the-variants.{Opened}
 use Rattle.board.specs.Faults.{report-of}
-use Rattle.board.specs.Invariant.{period-in-range}
-use Rattle.board.specs.Ledger.{Held, Ledger, nothing, holding, open-fault, opened-as, constraint-of, add-fault}
+use Rattle.board.specs.Ledger.{Held, Ledger, nothing, holding, head-fault, open-fault, opened-as, constraint-of, add-fault}
 
 -- the calls that a field of a file can stand for
 pub data Call : Type 0 where
@@ -56,8 +54,8 @@ called-in-order h [] = Ok h
 called-in-order h (c ∷ calls) = then-call (called h c) (λ k. called-in-order k calls)
 
 -- the number of events and the period are judged at the opening record
-abbrev pub head-fault : OpeningRecord → Option BoardFault
-head-fault o = unless (in-range (o .events)) EventCount (unless (period-in-range (o .period)) Period None)
+abbrev pub judged-at-opening : OpeningRecord → Option BoardFault
+judged-at-opening o = head-fault (o .events) (o .period) None
 
 -- an opening record with its departures opens a new board
 abbrev pub opened-by : OpeningRecord → List ℕ → Result Held BoardFault
@@ -69,7 +67,7 @@ performed-by h a = called-in-order h (stands-for a)
 
 -- what a file leaves on a new board, or its first fault
 unfoldable pub load-held : List ℕ → Result Held (LoadFault BoardFault)
-load-held bytes = load-file head-fault opened-by performed-by bytes
+load-held bytes = load-file judged-at-opening opened-by performed-by bytes
 
 -- an opened board is not loaded: that comes first, at place 0
 abbrev pub load-fault : Ledger → List ℕ → Option (LoadFault BoardFault)
@@ -89,7 +87,7 @@ load-after nothing bytes = loaded-ledger (load-held bytes)
 -- ledger accepts in order, and the board then holds what they leave
 abbrev pub LoadLaw : Ledger → List ℕ → Ledger → Type 0
 LoadLaw (holding h) bytes after = after ≡ holding h
-LoadLaw nothing bytes after = (h : Held) → (after ≡ holding h) ↔ Accepted head-fault opened-by performed-by bytes h
+LoadLaw nothing bytes after = (h : Held) → (after ≡ holding h) ↔ Accepted judged-at-opening opened-by performed-by bytes h
 
 -- layer, number and place of a load's fault: a board's fault keeps its layer and number, and has the place of the tag
 abbrev pub placed : ℕ → Report → Report

@@ -1,13 +1,14 @@
 // Making, opening and filling a board.
 ghost use mathlib.Core.Path.{_≡_};
 ghost use Prim.Native.Nat.{_≤_};
+ghost use lib.Dec.{ltb};
 ghost use lib.ListN.{length};
 ghost use Rattle.std.specs.Of.Vec.{vec-items, vec-len, vec-cap};
 ghost use Rattle.std.specs.Vec.{made};
 ghost use Rattle.std.specs.declared.option.Option.the-variants.{None};
 ghost use Rattle.faults.specs.Causes.{fault-of};
 ghost use Rattle.board.specs.Invariant.{departures-below};
-ghost use Rattle.board.specs.Ledger.{nothing, open-fault, open-after, early-add-fault, constraint-of, add-fault, add-after, next-number, CircuitLaw, summary-of};
+ghost use Rattle.board.specs.Ledger.{nothing, head-fault, open-fault, open-after, early-add-fault, constraint-of, add-fault, add-after, next-number, CircuitLaw, summary-of};
 ghost use Rattle.board.specs.Holding.{ledger-of};
 use crate::Board;
 use crate::BoardFault;
@@ -21,16 +22,52 @@ use timetable::ConstraintTable;
 use timetable::Letter;
 use timetable::State;
 
+// Whether a departure is below the period.
+fn is_below(period: u32, departure: u32) -> bool
+    ensures { λ r. ⌜ r ≡ ltb departure period ⌝ }
+{
+    departure < period
+}
+
 // Whether each departure is below the period.
 fn departures_below(period: u32, departures: &[u32]) -> bool
     ensures { λ r. ⌜ r ≡ departures-below period (now (departures .entry)) ⌝ }
 {
     for d in departures {
-        if *d >= period {
+        if !is_below(period, *d) {
             return false;
         }
     }
     true
+}
+
+// What is wrong with the number of events or the period.
+pub(crate) fn head_fault(events: u8, period: u32) -> Option<BoardFault>
+    ensures { λ r. ⌜ r ≡ head-fault events period None ⌝ }
+{
+    if events < 1 || events > 32 {
+        return Some(BoardFault::EventCount);
+    }
+    if period < 1 || period > 86400 {
+        return Some(BoardFault::Period);
+    }
+    None
+}
+
+// The lowest cause of refusing to open a new board.
+fn opening_fault(events: u8, period: u32, departures: &[u32]) -> Option<BoardFault>
+    ensures { λ r. ⌜ r ≡ open-fault nothing events period (now (departures .entry)) ⌝ }
+{
+    if let Some(fault) = head_fault(events, period) {
+        return Some(fault);
+    }
+    if !departures_below(period, departures) {
+        return Some(BoardFault::Departure);
+    }
+    if departures.len() != usize::from(events) {
+        return Some(BoardFault::Length);
+    }
+    None
 }
 
 // Copies the departures into the empty list, which has places for them.
@@ -108,24 +145,21 @@ impl Board {
 
     // Opens a new board: with a mark, 1 to 32 events, a period of 1 to 86,400 seconds, and for each event its departure below the
     // period. Refused with 2, 3, 4, 5 and 18.
-    pub fn open(&mut self, mark: u16, events: u8, period: u32, departures: &[u32]) -> Result<(), BoardFault>
+    pub fn open(
+        &mut self,
+        mark: u16,
+        events: u8,
+        period: u32,
+        departures: &[u32],
+    ) -> Result<(), BoardFault>
         ensures reply { λ r. ⌜ fault-of r ≡ open-fault (ledger-of (now (self .entry))) events period (now (departures .entry)) ⌝ }
         ensures after { λ _. ⌜ ledger-of (now (self .exit)) ≡ open-after (ledger-of (now (self .entry))) mark events period (now (departures .entry)) ⌝ }
     {
         if self.opened {
             return Err(BoardFault::Opened);
         }
-        if events < 1 || events > 32 {
-            return Err(BoardFault::EventCount);
-        }
-        if period < 1 || period > 86400 {
-            return Err(BoardFault::Period);
-        }
-        if !departures_below(period, departures) {
-            return Err(BoardFault::Departure);
-        }
-        if departures.len() != usize::from(events) {
-            return Err(BoardFault::Length);
+        if let Some(fault) = opening_fault(events, period, departures) {
+            return Err(fault);
         }
         keep_departures(&mut self.departures, departures);
         self.current = false;

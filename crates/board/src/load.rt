@@ -8,9 +8,10 @@ ghost use Rattle.std.specs.declared.option.Option.the-variants.{None};
 ghost use Rattle.faults.specs.Causes.{fault-of};
 ghost use Rattle.board.specs.Holding.{held-by, ledger-of};
 ghost use Rattle.board.specs.Ledger.{nothing};
-ghost use Rattle.board.specs.Loads.{head-fault, load-held, load-fault, load-after, LoadLaw, load-report, entries-held, Stepped, Came, OpenedBy};
+ghost use Rattle.board.specs.Loads.{judged-at-opening, load-held, load-fault, load-after, LoadLaw, load-report, entries-held, Stepped, Came, OpenedBy};
 use crate::Board;
 use crate::BoardFault;
+use crate::calls::head_fault;
 use board_file::Entry;
 use board_file::LoadFault;
 use board_file::LoadFromFrame;
@@ -39,19 +40,6 @@ pub fn report_of(fault: LoadFault<BoardFault>) -> Report
     }
 }
 
-// What is wrong with the number of events or the period, both judged at the opening record.
-fn judge(opening: &OpeningRecord) -> Option<BoardFault>
-    ensures { λ r. ⌜ r ≡ head-fault (now (opening .entry)) ⌝ }
-{
-    if opening.events < 1 || opening.events > 32 {
-        return Some(BoardFault::EventCount);
-    }
-    if opening.period < 1 || opening.period > 86400 {
-        return Some(BoardFault::Period);
-    }
-    None
-}
-
 impl Board {
     // Makes the board new again.
     fn forget(&mut self)
@@ -64,7 +52,11 @@ impl Board {
     }
 
     // Reads the entry at a place and performs it: answers the next entry's place, or nothing at the end.
-    fn read_one(&mut self, bytes: &[u8], place: usize) -> Result<Option<usize>, LoadFault<BoardFault>>
+    fn read_one(
+        &mut self,
+        bytes: &[u8],
+        place: usize,
+    ) -> Result<Option<usize>, LoadFault<BoardFault>>
         requires { ⌜ now self .opened ≡ true ⌝ }
         ensures opened { λ _. ⌜ now (self .exit) .opened ≡ true ⌝ }
         ensures step { λ r. ⌜ Stepped (now (bytes .entry)) place (held-by (now (self .entry))) (held-by (now (self .exit))) r ⌝ }
@@ -95,9 +87,14 @@ impl Board {
     }
 
     // Reads the departures, as many as there are events, and opens the board with them.
-    fn open_by(&mut self, bytes: &[u8], opening: OpeningRecord, departures: &mut [u32]) -> Result<(), LoadFault<BoardFault>>
+    fn open_by(
+        &mut self,
+        bytes: &[u8],
+        opening: OpeningRecord,
+        departures: &mut [u32],
+    ) -> Result<(), LoadFault<BoardFault>>
         requires new { ⌜ now self .opened ≡ false ⌝ }
-        requires judged { ⌜ head-fault opening ≡ None ⌝ }
+        requires judged { ⌜ judged-at-opening opening ≡ None ⌝ }
         requires count { ⌜ length (now departures) ≡ opening .events ⌝ }
         ensures opened { λ r. ⌜ made r (λ _. now (self .exit) .opened ≡ true) ⌝ }
         ensures came { λ r. ⌜ OpenedBy (now (bytes .entry)) opening (now (departures .exit)) (held-by (now (self .exit))) r ⌝ }
@@ -116,7 +113,7 @@ impl Board {
         ensures came { λ r. ⌜ Came (load-held (now (bytes .entry))) (held-by (now (self .exit))) r ⌝ }
     {
         let opening = read_opening(bytes)?;
-        if let Some(fault) = judge(&opening) {
+        if let Some(fault) = head_fault(opening.events, opening.period) {
             return Err(LoadFault::Judged { place: 0, fault });
         }
         let mut departures = [0u32; 32];

@@ -34,7 +34,11 @@ fn print_report(rt: &LibcRuntime, board: &Board) -> io::Result<()> {
     let Some(summary) = board.summary() else {
         return Ok(());
     };
-    println!(rt, "events {} period {} constraints {}", summary.events, summary.period, summary.constraints)
+    println!(
+        rt,
+        "events {} period {} constraints {}",
+        summary.events, summary.period, summary.constraints
+    )
 }
 
 fn main(rt: LibcRuntime) -> io::Result<()> {

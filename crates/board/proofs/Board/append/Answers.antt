@@ -52,8 +52,16 @@ ghost-self c =
     let p = passed (board .events) (c .len-count .result) a (sym (c .in-rest .ensures tt)) in
     let grown : rows ++ constraint-of a ∷ [] ≡ vec-items (c .push .last .self .rows) = sym (c .in-Ok .ensures tt .rows ∙ ap (λ x. rows ++ x ∷ []) (c .standing .ensures)) in
     let same = ap (λ n. closes-circuit n (c .as-slice .result .now) a) (c .from-events .ensures) ∙ ap (λ x. closes-circuit (board .events) x a) (c .as-slice .ensures .value) in
-    let few : vec-len (c .push .last .self .rows) ≤ 128 = omega (arith, p .room, c .len-count .ensures, board .table .rows .ok .0, c .push .last .self .rows .ok .0, ap length grown, length-append rows (constraint-of a ∷ [])) in
-    (search needs, (few, (search needs, (
-      subst (λ x. all-in-range (board .events) x ≡ true) grown (range-more (board .events) rows (constraint-of a) (board .ranges) (passed-in-range (board .events) (c .len-count .result) a p)),
-      (subst NoFreeCircuit grown (sound-more (board .events) rows a (board .ranges) (p .from) (sym same ∙ sym (c .if-closes-circuit .ensures tt)) (board .sound)), (search needs, (search needs, tt))),
-    ))))
+    let few : vec-len (c .push .last .self .rows) ≤ 128 = omega (arith, p .room, c .len-count .ensures, board .table .rows .ok .0, c .push .last .self .rows .ok .0, ap length grown, length-append rows (constraint-of a ∷ [])) in (
+      search needs,
+      (
+        few,
+        (
+          search needs,
+          (
+            subst (λ x. all-in-range (board .events) x ≡ true) grown (range-more (board .events) rows (constraint-of a) (board .ranges) (passed-in-range (board .events) (c .len-count .result) a p)),
+            (subst NoFreeCircuit grown (sound-more (board .events) rows a (board .ranges) (p .from) (sym same ∙ sym (c .if-closes-circuit .ensures tt)) (board .sound)), (search needs, (search needs, tt))),
+          ),
+        ),
+      ),
+    )
