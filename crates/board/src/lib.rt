@@ -15,8 +15,12 @@ mod load;
 mod summary;
 
 pub use fault::BoardFault;
+pub use fault::BoardFaultDebug;
+pub use fault::BoardFaultPartialEq;
 pub use load::report_of;
 pub use summary::Summary;
+pub use summary::SummaryDebug;
+pub use summary::SummaryPartialEq;
 
 // A board is new until it is opened. All memory that it will ever want is reserved when it is made.
 #[derive(Drop)]
