@@ -108,11 +108,11 @@ fn the_boards_faults_lie_at_their_tags(rt: LibcRuntime) -> Result<(), Fail> {
 #[test]
 fn the_129th_constraint_is_refused(rt: LibcRuntime) -> Result<(), Fail> {
     // board B's opening and departures, its first constraint 129 times, and the end
-    let mut file = [0u8; 1318];
-    file[0..25].copy_from_slice(&FILE[0..25]);
-    for k in 0..129 {
-        file[25 + 10 * k..35 + 10 * k].copy_from_slice(&FILE[25..35]);
+    let mut file = Vec::new(rt.alloc());
+    file.extend_from_slice(&FILE[0..25])?;
+    for _ in 0..129 {
+        file.extend_from_slice(&FILE[25..35])?;
     }
-    file[1315..1318].copy_from_slice(&FILE[65..68]);
-    check_eq(refused(rt.alloc(), &file)?, report(Layer::Board, 11, 1305))
+    file.extend_from_slice(&FILE[65..68])?;
+    check_eq(refused(rt.alloc(), file.as_slice())?, report(Layer::Board, 11, 1305))
 }
