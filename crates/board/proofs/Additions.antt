@@ -14,11 +14,13 @@ use Rattle.std.specs.Options.{isSome}
 use Rattle.std.specs.declared.option.Option.{Option}
 use Rattle.std.specs.declared.option.Option.the-variants.{Some, None}
 use Rattle.faults.specs.Causes.{unless}
+use Rattle.faults.proofs.Refusals.{unless-none}
 use Rattle.weights.specs.DaysKind.{Weekday, days-of, some-weekday}
 use Rattle.weights.proofs.DaysLaws.{some-day, some-from-day}
 use Rattle.runs.specs.Nets.{In, IsCircuit}
 use Rattle.runs.specs.Tables.{every}
 use Rattle.runs.proofs.Members.{in?}
+use Rattle.runs.proofs.Searches.{and-both, and-first, and-second}
 use Rattle.timetable.specs.declared.Addition.{Addition}
 use Rattle.timetable.specs.declared.Constraint.{Constraint}
 use Rattle.timetable.specs.Words.{letter-of, free-net}
@@ -41,23 +43,33 @@ pub record Passed (events count : ℕ) (a : Addition) : Type 0 where
   pub letter : isSome (letter-of (a .letter)) ≡ true
   pub room : count < 128
 
-unless-none : (b : Bool) (f : BoardFault) (o : Option BoardFault) → unless b f o ≡ None → (b ≡ true) × (o ≡ None)
-unless-none true f o e = (refl, e)
-unless-none false f o e = absurd (let z : _≡_ {A = ℕ} 0 1 = cc in omega arith)
+-- the tests themselves
+record Tests (events count : ℕ) (a : Addition) : Type 0 where
+  events-test : (ltb (a .from) events && ltb (a .to) events) ≡ true
+  time-test : leb (a .time) 14400 ≡ true
+  tokens-test : leb (a .tokens) 7 ≡ true
+  days-test : (leb 1 (a .days) && leb (a .days) 127) ≡ true
+  letter-test : isSome (letter-of (a .letter)) ≡ true
+  room-test : ltb count 128 ≡ true
 
-pub passed : (events count : ℕ) (a : Addition) → early-add-fault events count a None ≡ None → Passed events count a
-passed events count a e =
+tests : (events count : ℕ) (a : Addition) → early-add-fault events count a None ≡ None → Tests events count a
+tests events count a e =
     let e1 = unless-none (ltb (a .from) events && ltb (a .to) events) Event _ e in
     let e2 = unless-none (leb (a .time) 14400) Time _ (e1 .1) in
     let e3 = unless-none (leb (a .tokens) 7) Tokens _ (e2 .1) in
     let e4 = unless-none (leb 1 (a .days) && leb (a .days) 127) Days _ (e3 .1) in
     let e5 = unless-none (isSome (letter-of (a .letter))) Letter _ (e4 .1) in
     let e6 = unless-none (ltb count 128) Full None (e5 .1) in
-    let t1 = e1 .0 in
-    let t2 = e2 .0 in
-    let t3 = e3 .0 in
-    let t4 = e4 .0 in
-    let t6 = e6 .0 in
+    record { events-test = e1 .0; time-test = e2 .0; tokens-test = e3 .0; days-test = e4 .0; letter-test = e5 .0; room-test = e6 .0 }
+
+pub passed : (events count : ℕ) (a : Addition) → early-add-fault events count a None ≡ None → Passed events count a
+passed events count a e =
+    let t = tests events count a e in
+    let t1 = t .events-test in
+    let t2 = t .time-test in
+    let t3 = t .tokens-test in
+    let t4 = t .days-test in
+    let t6 = t .room-test in
     record {
       from = grind (arith, tells);
       to = grind (arith, tells);
@@ -65,21 +77,15 @@ passed events count a e =
       tokens = grind (arith, tells);
       some-days = grind (arith, tells);
       days = grind (arith, tells);
-      letter = e5 .0;
+      letter = t .letter-test;
       room = grind (arith, tells);
     }
 
 -- with the tests before it passed, the fault is the circuits'
 pub only-circuits : (events count : ℕ) (a : Addition) (next : Option BoardFault) → early-add-fault events count a None ≡ None → early-add-fault events count a next ≡ next
 only-circuits events count a next e =
-    let p = passed events count a e in
-    let e1 = unless-none (ltb (a .from) events && ltb (a .to) events) Event _ e in
-    let e2 = unless-none (leb (a .time) 14400) Time _ (e1 .1) in
-    let e3 = unless-none (leb (a .tokens) 7) Tokens _ (e2 .1) in
-    let e4 = unless-none (leb 1 (a .days) && leb (a .days) 127) Days _ (e3 .1) in
-    let e5 = unless-none (isSome (letter-of (a .letter))) Letter _ (e4 .1) in
-    let e6 = unless-none (ltb count 128) Full None (e5 .1) in
-    rw (e1 .0, e2 .0, e3 .0, e4 .0, e5 .0, e6 .0)
+    let t = tests events count a e in
+    rw (t .events-test, t .time-test, t .tokens-test, t .days-test, t .letter-test, t .room-test)
 
 -- the range of the constraint that an addition makes
 pub passed-in-range : (events count : ℕ) (a : Addition) → Passed events count a → constraint-in-range events (constraint-of a) ≡ true
@@ -104,18 +110,6 @@ module _ (n : ℕ) (rows : List Constraint) (a : Addition) (range : all-in-range
   -- the new constraint is token-free on a day exactly when it has no token and the day
   abbrev back : Weekday → Bool
   back d = days-of (a .days) d && days-between n rows (a .to) (a .from) d
-
-  and-both : (x y : Bool) → x ≡ true → y ≡ true → (x && y) ≡ true
-  and-both true y p q = q
-  and-both false y p q = p
-
-  and-first : (x y : Bool) → (x && y) ≡ true → x ≡ true
-  and-first true y e = refl
-  and-first false y e = e
-
-  and-second : (x y : Bool) → (x && y) ≡ true → y ≡ true
-  and-second true y e = e
-  and-second false y e = absurd (clash e)
 
   pub closes-so : closes-circuit n rows a ≡ true → FreeCircuitThrough rows (constraint-of a)
   closes-so e =

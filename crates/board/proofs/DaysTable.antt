@@ -9,7 +9,6 @@ use native.Mathlib.Omega.{arith}
 use lib.Dec.{leb, ltb, eqb}
 use lib.ListN.{length, getD, set}
 use borrow.Author.Count.{below-more}
-use borrow.Author.Tests.{clash}
 use Rattle.std.specs.Iters.{counting}
 use Rattle.std.proofs.shelf.Counted.{fill-by-all}
 use Rattle.std.proofs.shelf.Lists.{length-map, getD-map, getD-past, getD-default, getD-set-same, getD-set-other}
@@ -30,6 +29,7 @@ use Rattle.runs.specs.Gaining.{some-gains, found-or, lowest, gaining-event}
 use Rattle.runs.specs.Links.{no-link, net-of, at}
 use Rattle.runs.specs.Tables.{every, in-range, events-below, right-lengths, spans-at-most-one, gain-fault, table-fault, CellsAfter, Tabled}
 use Rattle.runs.proofs.Columns.{fill-more}
+use Rattle.runs.proofs.Searches.{and-first, and-second}
 use Rattle.timetable.specs.declared.Constraint.{Constraint}
 use Rattle.timetable.specs.Words.{row-at, no-constraint, link-of, free-days}
 use Rattle.board.specs.Circuits.{free-at, days-between}
@@ -54,19 +54,11 @@ spans : {X : Type 0} (m : X → Weekday → Bool) (ws : List X) → spans-at-mos
 spans m [] = refl
 spans m (w ∷ ws) = spans m ws
 
-and-left : (a b : Bool) → (a && b) ≡ true → a ≡ true
-and-left true b e = refl
-and-left false b e = absurd (clash e)
-
-and-right : (a b : Bool) → (a && b) ≡ true → b ≡ true
-and-right true b e = e
-and-right false b e = absurd (clash e)
-
 pub links-below : (n : ℕ) (rows : List Constraint) → all-in-range n rows ≡ true → events-below n (map link-of rows) ≡ true
 links-below n [] e = refl
 links-below n (c ∷ rows) e =
-    let here : (ltb (c .from) n && ltb (c .to) n) ≡ true = and-left _ _ (and-left (constraint-in-range n c) (all-in-range n rows) e) in
-    ap (λ t. t && events-below n (map link-of rows)) here ∙ links-below n rows (and-right (constraint-in-range n c) (all-in-range n rows) e)
+    let here : (ltb (c .from) n && ltb (c .to) n) ≡ true = and-first _ _ (and-first (constraint-in-range n c) (all-in-range n rows) e) in
+    ap (λ t. t && events-below n (map link-of rows)) here ∙ links-below n rows (and-second (constraint-in-range n c) (all-in-range n rows) e)
 
 pub days-table-accepted : {X : Type 0} (m : X → Weekday → Bool) (n : ℕ) (rows : List Constraint) (ls : List Link) (ws cells spare : List X) → in-range n ≡ true → all-in-range n rows ≡ true → ls ≡ map link-of rows
     → length rows ≤ 128 → length ws ≡ length rows → length cells ≡ n * n → length spare ≡ n → table-fault days-kind m n ls ws cells spare ≡ None

@@ -20,6 +20,7 @@ use Rattle.runs.specs.Gaining.{NoCircuitGains}
 use Rattle.runs.specs.Links.{no-link, net-of}
 use Rattle.runs.proofs.Members.{in-counting, counting-in, kept-in, in-kept, all-in}
 use Rattle.runs.proofs.Enumeration.{runs-are}
+use Rattle.runs.proofs.Searches.{and-both, and-first, and-second}
 use Rattle.runs.proofs.Tables.{links-within}
 use Rattle.runs.proofs.Theorem.{least-above}
 use Rattle.timetable.specs.declared.Constraint.{Constraint}
@@ -37,18 +38,6 @@ free-link d rows k h =
 
 pub link-free : (d : Weekday) (rows : List Constraint) (k : ℕ) → k < length rows → free-on d (row-at rows k) ≡ true → In k (free-net d rows .links)
 link-free d rows k h free = in-kept (λ n. free-on d (row-at rows n)) k (counting 0 (length rows)) (counting-in k 0 (length rows) (omega arith) (omega arith)) free
-
-and-both : (a b : Bool) → a ≡ true → b ≡ true → (a && b) ≡ true
-and-both true b p q = q
-and-both false b p q = p
-
-and-first : (a b : Bool) → (a && b) ≡ true → a ≡ true
-and-first true b e = refl
-and-first false b e = e
-
-and-second : (a b : Bool) → (a && b) ≡ true → b ≡ true
-and-second true b e = e
-and-second false b e = absurd (clash e)
 
 module _ (d : Weekday) (rows : List Constraint) where
   abbrev all : Net

@@ -10,6 +10,7 @@ use Rattle.std.proofs.shelf.Ways.{tells}
 use Rattle.std.specs.declared.option.Option.{Option}
 use Rattle.std.specs.declared.option.Option.the-variants.{None}
 use Rattle.faults.specs.Causes.{unless}
+use Rattle.faults.proofs.Refusals.{unless-none}
 use Rattle.board.specs.declared.fault.BoardFault.{BoardFault}
 use Rattle.board.specs.declared.fault.BoardFault.the-variants.{EventCount, Period, Departure, Length}
 use Rattle.timetable.specs.declared.Constraint.{Constraint}
@@ -26,10 +27,6 @@ opening-events events period departures e = go (in-range events) e
     go : (t : Bool) → (t && (period-in-range period && (departures-below period departures && eqb (length departures) events))) ≡ true → t ≡ true
     go true h = refl
     go false h = h
-
-unless-none : (b : Bool) (f : BoardFault) (o : Option BoardFault) → unless b f o ≡ None → (b ≡ true) × (o ≡ None)
-unless-none true f o e = (refl, e)
-unless-none false f o e = absurd (let z : _≡_ {A = ℕ} 0 1 = cc in omega arith)
 
 module _ (events period : ℕ) (departures : List ℕ) (accepted : open-fault nothing events period departures ≡ None) where
   -- the values of an accepted opening are in range

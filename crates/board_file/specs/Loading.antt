@@ -76,8 +76,7 @@ module _ {S F : Type 0} (judge : OpeningRecord → Option F) (begin : OpeningRec
   abbrev pub load-file : List ℕ → Result S (LoadFault F)
   load-file bytes = then-read (opening-at bytes 0) (after-opening bytes)
 
-  -- a file is accepted with a state: it is the encoding of an opening record, departures and additions that fit their bytes, nothing is
-  -- held against the opening record, and the state opened with the departures becomes that state by the additions in order
+  -- a file is accepted with a state: it encodes an opening record, departures and additions that fit their bytes and lead to that state
   pub record Accepted (bytes : List ℕ) (s : S) : Type 0 where
     pub opening : OpeningRecord
     pub departures : List ℕ

@@ -19,6 +19,18 @@ use Rattle.std.specs.declared.option.Option.the-variants.{Some, None}
 use Rattle.runs.specs.Gaining.{found-or, lowest}
 use Rattle.runs.specs.Tables.{every}
 
+pub and-both : (a b : Bool) → a ≡ true → b ≡ true → (a && b) ≡ true
+and-both true b p q = q
+and-both false b p q = p
+
+pub and-first : (a b : Bool) → (a && b) ≡ true → a ≡ true
+and-first true b e = refl
+and-first false b e = e
+
+pub and-second : (a b : Bool) → (a && b) ≡ true → b ≡ true
+and-second true b e = e
+and-second false b e = absurd (clash e)
+
 pub some-not-none : {X : Type 0} {x : X} → Some x ≡ None → ⊥
 some-not-none e = let z : _≡_ {A = ℕ} 0 1 = cc in omega arith
 

@@ -14,6 +14,7 @@ use Rattle.std.specs.declared.result.Result.{Result}
 use Rattle.std.specs.declared.result.Result.the-variants.{Ok, Err}
 use Rattle.std.proofs.shelf.Ways.{decides-and, decides-ltb}
 use Rattle.faults.specs.Causes.{unless, reply-of}
+use Rattle.faults.proofs.Refusals.{unless-none}
 use Rattle.weights.specs.Kinds.{Kind, Laws, Idempotent}
 use Rattle.runs.specs.declared.Link.{Link}
 use Rattle.runs.specs.declared.TableFault.{TableFault}
@@ -28,10 +29,6 @@ use Rattle.runs.specs.Tables.{in-range, events-below, right-lengths, spans-at-
 use Rattle.runs.proofs.Extending.{net-within}
 use Rattle.runs.proofs.Searches.{decides-leb, every-says, lowest-passes, none-passes}
 use Rattle.runs.proofs.Theorem.{gaining-circuit, no-gaining-circuit, none-gains-closed, least-above}
-
-unless-none : (b : Bool) (f : TableFault) (o : Option TableFault) → unless b f o ≡ None → (b ≡ true) × (o ≡ None)
-unless-none true f o e = (refl, e)
-unless-none false f o e = absurd (let z : _≡_ {A = ℕ} 0 1 = cc in omega arith)
 
 reply-none : (o : Option TableFault) → reply-of o ≡ Ok tt → o ≡ None
 reply-none None e = refl

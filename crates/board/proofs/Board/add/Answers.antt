@@ -1,4 +1,5 @@
 use mathlib.Core.Path.{sym, subst}
+use borrow.Author.Needs.{needs}
 use Rattle.board.specs.Ledger.{CircuitLaw}
 use Rattle.board.specs.Holding.{held-by, ledger-of}
 use Rattle.board.proofs.Additions.{circuit-law}
@@ -9,8 +10,8 @@ returns c =
     let done = c .append .ensures in
     let board = c .args .self .now in
     record {
-      reply = done .reply;
-      number = done .number;
-      after = done .after;
+      reply = search needs;
+      number = search needs;
+      after = search needs;
       law = subst (CircuitLaw (ledger-of board) (c .args .addition)) (sym (done .reply)) (circuit-law (board .opened) (held-by board) (c .args .addition) (board .ranges));
     }

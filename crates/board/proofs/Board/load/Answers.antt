@@ -9,7 +9,7 @@ returns c =
     let board = c .args .self .now in
     let done = c .load-or-forget .ensures in
     record {
-      reply = done .reply;
-      after = done .after;
+      reply = search needs;
+      after = search needs;
       law = load-law (c .args .bytes .now) (λ i. search needs) (board .opened) (held-by board) _ (done .after);
     }
