@@ -36,7 +36,7 @@ impl Days {
     pub fn meets(self, other: Days) -> bool
         ensures { λ r. ⌜ r ≡ some-weekday (λ d. days-of (self .mask) d && days-of (other .mask) d) ⌝ }
     {
-        self.mask & other.mask != 0
+        (self.mask & other.mask) != 0
     }
 }
 
