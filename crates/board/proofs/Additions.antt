@@ -1,6 +1,6 @@
 -- An addition that passes every test is in range and keeps the board sound; and it closes a circuit exactly when the Days table
 -- says so.
-use mathlib.Core.Path.{_≡_, refl, sym, ap, subst, _∙_}
+use mathlib.Core.Path.{_≡_, refl, sym, ap, _∙_}
 use mathlib.Core.Bool.{Bool, true, false, cond, not, _&&_}
 use mathlib.Core.List.{List, [], _∷_, _++_}
 use mathlib.Core.Logic.{_↔_}
@@ -28,7 +28,7 @@ use Rattle.board.specs.declared.fault.BoardFault.{BoardFault}
 use Rattle.board.specs.declared.fault.BoardFault.the-variants.{Event, Time, Tokens, Days, Letter, Full, Circuit}
 use Rattle.board.specs.Circuits.{NoFreeCircuit, days-between, closes-circuit, FreeCircuitThrough}
 use Rattle.board.specs.Invariant.{constraint-in-range, all-in-range}
-use Rattle.board.specs.Ledger.{Held, Ledger, nothing, holding, constraint-of, early-add-fault, add-fault, with-row, unless-refused, add-after, next-number, CircuitLaw}
+use Rattle.board.specs.Ledger.{Held, Ledger, nothing, holding, constraint-of, early-add-fault, add-fault, with-row, unless-refused, add-after, CircuitLaw}
 use Rattle.board.proofs.FreeRuns.{between-run, run-between}
 use Rattle.board.proofs.FreeCircuits.{circuit-from-run, run-from-circuit, old-circuit}
 
@@ -165,13 +165,3 @@ module _ (l : Ledger) (h : Held) (a : Addition) (held : l ≡ holding h) (early 
   circuit-refused closes =
       let fault : add-fault l a ≡ Some Circuit = fault-is true closes in
       (sym fault, sym (ap (λ f. unless-refused f (with-row l (constraint-of a)) l) fault))
-
-  pub addition-accepted : closes-circuit (h .events) (h .rows) a ≡ false → (rows : List Constraint) → rows ≡ h .rows ++ constraint-of a ∷ []
-      → (None ≡ add-fault l a) × (length (h .rows) ≡ next-number l) × (holding (record { mark = h .mark; events = h .events; period = h .period; departures = h .departures; rows = rows }) ≡ add-after l a)
-  addition-accepted closes rows grown =
-      let fault : add-fault l a ≡ None = fault-is false closes in (
-        sym fault,
-        sym (ap next-number held),
-        ap (λ x. holding (record { mark = h .mark; events = h .events; period = h .period; departures = h .departures; rows = x })) grown
-            ∙ sym (ap (λ x. with-row x (constraint-of a)) held) ∙ sym (ap (λ f. unless-refused f (with-row l (constraint-of a)) l) fault),
-      )

@@ -6,15 +6,13 @@ use mathlib.Core.List.{List, [], _∷_, map}
 use Prim.Native.Nat.{ℕ, zero, suc, _+_, _*_, _<_, _≤_}
 use native.Mathlib.Decide.{decLt}
 use native.Mathlib.Omega.{arith}
-use lib.Dec.{leb, ltb, eqb}
+use lib.Dec.{ltb}
 use lib.ListN.{length, getD, set}
 use borrow.Author.Count.{below-more}
-use Rattle.std.specs.Iters.{counting}
 use Rattle.std.proofs.shelf.Counted.{fill-by-all}
 use Rattle.std.proofs.shelf.Lists.{length-map, getD-map, getD-past, getD-default, getD-set-same, getD-set-other}
 use Rattle.std.proofs.shelf.Ways.{tells}
-use Rattle.std.specs.declared.option.Option.{Option}
-use Rattle.std.specs.declared.option.Option.the-variants.{Some, None}
+use Rattle.std.specs.declared.option.Option.the-variants.{None}
 use Rattle.std.specs.declared.result.Result.{Result}
 use Rattle.faults.specs.Causes.{unless}
 use Rattle.weights.specs.Kinds.{gains}
@@ -23,7 +21,6 @@ use Rattle.weights.proofs.DaysLaws.{days-laws}
 use Rattle.runs.specs.declared.Link.{Link}
 use Rattle.runs.specs.declared.TableFault.{TableFault}
 use Rattle.runs.specs.declared.TableFault.the-variants.{EventCount, Event, Length, Span}
-use Rattle.runs.specs.Nets.{Net}
 use Rattle.runs.specs.Runs.{weigh, closed-runs, cell}
 use Rattle.runs.specs.Gaining.{some-gains, found-or, lowest, gaining-event}
 use Rattle.runs.specs.Links.{no-link, net-of, at}

@@ -1,13 +1,10 @@
 -- A board without constraints: there is no circuit, and nothing is out of range.
-use mathlib.Core.Path.{_≡_, refl, sym, ap, subst}
+use mathlib.Core.Path.{_≡_, sym, ap, subst}
 use mathlib.Core.Bool.{true}
 use mathlib.Core.List.{List, [], _∷_}
 use Prim.Native.Nat.{ℕ}
 use native.Mathlib.Omega.{arith}
-use Rattle.weights.specs.DaysKind.{Weekday}
-use Rattle.runs.specs.Nets.{IsCircuit}
 use Rattle.timetable.specs.declared.Constraint.{Constraint}
-use Rattle.timetable.specs.Words.{free-net}
 use Rattle.board.specs.Circuits.{NoFreeCircuit}
 use Rattle.board.specs.Invariant.{all-in-range}
 

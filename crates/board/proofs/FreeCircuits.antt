@@ -4,22 +4,20 @@
 -- constraint, what follows it and what goes before it make a run back; the new one is not met again there, since a circuit meets
 -- its first event once.
 use mathlib.Core.Path.{_≡_, refl, sym, ap, subst, _∙_}
-use mathlib.Core.Bool.{Bool, true, false, _&&_}
+use mathlib.Core.Bool.{true}
 use mathlib.Core.List.{List, [], _∷_, _++_, map}
 use mathlib.Core.Logic.{_⊎_, inl, inr, ⊎-elim}
-use Prim.Native.Nat.{ℕ, _+_, _<_, _≤_}
-use native.Mathlib.Decide.{ℕ-discrete}
+use Prim.Native.Nat.{ℕ, _+_, _<_}
 use native.Mathlib.Omega.{arith}
-use lib.ListN.{length, getD}
+use lib.ListN.{length}
 use lib.Seq.{getD-append-seam}
 use Rattle.std.proofs.shelf.Lists.{length-append, map-append, getD-append-left}
 use Rattle.weights.specs.DaysKind.{Weekday}
 use Rattle.runs.specs.Nets.{Net, In, Distinct, IsRun, IsCircuit}
-use Rattle.runs.proofs.Members.{in-left, in-right, in-map, in?}
+use Rattle.runs.proofs.Members.{in-left, in-right, in-map}
 use Rattle.runs.proofs.Cutting.{Simple, simple-run, Around, around, run-append}
 use Rattle.timetable.specs.declared.Constraint.{Constraint}
 use Rattle.timetable.specs.Words.{no-constraint, row-at, free-on, free-net}
-use Rattle.board.specs.Circuits.{NoFreeCircuit}
 use Rattle.board.proofs.FreeRuns.{free-link, link-free}
 
 -- the elements of two lists, one behind the other

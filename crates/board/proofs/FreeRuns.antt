@@ -1,7 +1,7 @@
 -- On a weekday, the cell of the Days table says whether token-free constraints in force lead from one event to another: a run's
 -- weight has the day exactly when each of its constraints is token-free and in force on it.
 use mathlib.Core.Path.{_≡_, refl, sym, ap, subst, _∙_, fun-ext}
-use mathlib.Core.Bool.{Bool, true, false, _||_, _&&_}
+use mathlib.Core.Bool.{Bool, true, false, _||_}
 use mathlib.Core.List.{List, [], _∷_, map}
 use mathlib.Core.Logic.{inl, inr}
 use Prim.Native.Nat.{ℕ, _+_, _<_, _≤_}
@@ -10,11 +10,10 @@ use native.Mathlib.Omega.{arith}
 use lib.ListN.{length, getD}
 use borrow.Author.Tests.{clash}
 use Rattle.std.specs.Iters.{counting}
-use Rattle.std.specs.shelf.Lists.{All}
 use Rattle.std.proofs.shelf.Lists.{length-map, getD-map, getD-past}
 use Rattle.weights.specs.DaysKind.{Weekday, days-kind}
 use Rattle.weights.proofs.DaysLaws.{days-laws, days-idempotent}
-use Rattle.runs.specs.Nets.{Net, In, IsRun, Within}
+use Rattle.runs.specs.Nets.{Net, In, IsRun}
 use Rattle.runs.specs.Runs.{weigh, choice-over, runs-below, cell}
 use Rattle.runs.specs.Gaining.{NoCircuitGains}
 use Rattle.runs.specs.Links.{no-link, net-of}
@@ -24,7 +23,7 @@ use Rattle.runs.proofs.Searches.{and-both, and-first, and-second}
 use Rattle.runs.proofs.Tables.{links-within}
 use Rattle.runs.proofs.Theorem.{least-above}
 use Rattle.timetable.specs.declared.Constraint.{Constraint}
-use Rattle.timetable.specs.Words.{no-constraint, row-at, link-of, free-on, free-days, free-net}
+use Rattle.timetable.specs.Words.{no-constraint, row-at, link-of, free-on, free-net}
 use Rattle.board.specs.Circuits.{free-at, days-between}
 use Rattle.board.specs.Invariant.{all-in-range}
 use Rattle.board.proofs.DaysTable.{links-below, free-at-is}

@@ -1,12 +1,10 @@
 -- Loading step by step on the plain ledger, as the board's calls leave it.
-use mathlib.Core.Path.{_≡_, refl, sym, ap, subst, _∙_}
+use mathlib.Core.Path.{_≡_, refl, sym, ap, _∙_}
 use mathlib.Core.Bool.{Bool, true, false, cond}
-use mathlib.Core.List.{List, [], _∷_}
-use mathlib.Core.Logic.{_↔_}
-use Prim.Native.Nat.{ℕ, _+_, _*_, _-_, _≤_}
+use mathlib.Core.List.{List}
+use Prim.Native.Nat.{ℕ, _+_, _*_, _-_}
 use native.Mathlib.Omega.{arith}
 use lib.ListN.{length}
-use Rattle.std.specs.declared.option.Option.{Option}
 use Rattle.std.specs.declared.option.Option.the-variants.{Some, None}
 use Rattle.std.specs.declared.result.Result.{Result}
 use Rattle.std.specs.declared.result.Result.the-variants.{Ok, Err}
@@ -21,7 +19,6 @@ use Rattle.board_file.specs.declared.OpeningRecord.{OpeningRecord}
 use Rattle.board_file.specs.declared.Entry.the-variants.{Add, End}
 use Rattle.board_file.specs.Frames.{end-at}
 use Rattle.board_file.specs.Records.{opening-at, departures-at, departures-reply, departures-after, entry-at}
-use Rattle.board_file.specs.Loading.{load-file}
 use Rattle.board_file.specs.Encodings.{Bytes}
 use Rattle.board_file.proofs.Encoding.{loads-encodings}
 use Rattle.board_file.proofs.Steps.{entries-refused, entries-judged, entries-more, entries-ended, entries-trailing, load-opening-refused, load-judged, load-departures-refused, load-begin-refused, load-begun}

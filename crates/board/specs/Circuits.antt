@@ -1,5 +1,4 @@
 -- Token-free circuits: what no board may have on any day, and when an addition would close one.
-use mathlib.Core.Path.{_≡_}
 use mathlib.Core.Bool.{Bool, _&&_}
 use mathlib.Core.List.{List, [], _∷_, _++_, map}
 use Prim.Native.Nat.{ℕ}

@@ -1,7 +1,7 @@
 -- A cell by rounds: the runs of fewer than k + 1 links are the empty one and, behind each first link, those of fewer than k,
 -- and chaining distributes over the choice. So a round makes the cells of k + 1 of those of k; a round that changes nothing is
 -- the last that could; and a cell of k spans at most k - 1.
-use mathlib.Core.Path.{_≡_, refl, sym, ap, subst, _∙_}
+use mathlib.Core.Path.{_≡_, refl, sym, ap, _∙_}
 use mathlib.Core.Bool.{Bool, true, false, cond}
 use mathlib.Core.List.{List, [], _∷_, _++_, map}
 use Prim.Native.Nat.{ℕ, zero, suc, _+_, _-_, _<_, _≤_}

@@ -2,8 +2,7 @@
 use mathlib.Core.Path.{_≡_, refl, sym, ap, subst, _∙_}
 use mathlib.Core.Bool.{Bool, true, false, _&&_}
 use mathlib.Core.List.{List}
-use mathlib.Core.Logic.{_↔_}
-use Prim.Native.Nat.{ℕ, _+_, _*_, _<_, _≤_}
+use Prim.Native.Nat.{ℕ, _<_, _≤_}
 use native.Mathlib.Omega.{arith}
 use lib.Dec.{leb, ltb}
 use lib.ListN.{length}
@@ -20,12 +19,12 @@ use Rattle.runs.specs.declared.Link.{Link}
 use Rattle.runs.specs.declared.TableFault.{TableFault}
 use Rattle.runs.specs.declared.TableFault.the-variants.{EventCount, Event, Length, Span, Gain}
 use Rattle.runs.specs.Nets.{Net, Within}
-use Rattle.runs.specs.Runs.{closed-runs, cell}
+use Rattle.runs.specs.Runs.{closed-runs}
 use Rattle.runs.specs.Gaining.{some-gains, gaining-event, SomeCircuitGains, NoCircuitGains, LeastAbove}
 use Rattle.runs.specs.Links.{net-of, at}
 use Rattle.runs.specs.Faults.{report-of}
 use Rattle.runs.specs.Rounds.{Fit}
-use Rattle.runs.specs.Tables.{in-range, events-below, right-lengths, spans-at-most-one, gain-fault, early-fault, table-fault, CellsAfter, SpareAfter, Tabled, Cause, LowestCause, RefusedForGain, TableLaw}
+use Rattle.runs.specs.Tables.{in-range, events-below, right-lengths, spans-at-most-one, gain-fault, early-fault, table-fault, CellsAfter, Tabled, Cause, LowestCause, TableLaw}
 use Rattle.runs.proofs.Extending.{net-within}
 use Rattle.runs.proofs.Searches.{decides-leb, every-says, lowest-passes, none-passes}
 use Rattle.runs.proofs.Theorem.{gaining-circuit, no-gaining-circuit, none-gains-closed, least-above}

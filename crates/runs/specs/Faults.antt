@@ -1,5 +1,4 @@
 -- The faults of the table of runs: layer, number and place of each.
-use Prim.Native.Nat.{ℕ}
 use Rattle.faults.specs.declared.Layer.the-variants.{Table}
 use Rattle.faults.specs.declared.Report.{Report}
 use Rattle.runs.specs.declared.TableFault.{TableFault}

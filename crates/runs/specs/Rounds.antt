@@ -9,7 +9,7 @@ use Rattle.std.specs.shelf.Lists.{All}
 use Rattle.weights.specs.Kinds.{Kind}
 use Rattle.runs.specs.declared.Link.{Link}
 use Rattle.runs.specs.Nets.{Net}
-use Rattle.runs.specs.Links.{net-of, at}
+use Rattle.runs.specs.Links.{at}
 
 -- what the empty run gives the cell (i, j)
 abbrev pub seed : (K : Kind) → ℕ → ℕ → K .carrier

@@ -1,7 +1,7 @@
 -- The table of runs: when it is refused and with which fault, what cells and spare cells then hold, and what that says of
 -- circuits and of runs of any length.
 use mathlib.Core.Path.{_≡_}
-use mathlib.Core.Bool.{Bool, true, false, cond, _&&_}
+use mathlib.Core.Bool.{Bool, true, false, _&&_}
 use mathlib.Core.List.{List, [], _∷_}
 use mathlib.Core.Logic.{_↔_}
 use Prim.Native.Nat.{ℕ, _+_, _*_, _<_, _≤_}
@@ -16,7 +16,6 @@ use Rattle.weights.specs.Kinds.{Kind}
 use Rattle.runs.specs.declared.Link.{Link}
 use Rattle.runs.specs.declared.TableFault.{TableFault}
 use Rattle.runs.specs.declared.TableFault.the-variants.{EventCount, Event, Length, Span, Gain}
-use Rattle.runs.specs.Nets.{Net}
 use Rattle.runs.specs.Runs.{cell}
 use Rattle.runs.specs.Gaining.{gaining-event, SomeCircuitGains, NoCircuitGains, LeastAbove}
 use Rattle.runs.specs.Links.{net-of, at}

@@ -9,7 +9,7 @@ use Rattle.std.specs.Iters.{counting}
 use Rattle.std.specs.shelf.Lists.{kept-by}
 use Rattle.std.specs.declared.option.Option.{Option}
 use Rattle.std.specs.declared.option.Option.the-variants.{Some, None}
-use Rattle.weights.specs.DaysKind.{Weekday, bit-of, days-of}
+use Rattle.weights.specs.DaysKind.{Weekday, days-of}
 use Rattle.runs.specs.declared.Link.{Link}
 use Rattle.runs.specs.Nets.{Net}
 use Rattle.timetable.specs.declared.Letter.{Letter}

@@ -5,7 +5,7 @@ use mathlib.Core.Logic.{_⊎_, inl, inr, ⊎-elim}
 use native.Mathlib.Omega.{arith}
 use Rattle.std.specs.Orderings.{Decides}
 use Rattle.std.proofs.shelf.Ways.{decides-and, decides-like}
-use Rattle.weights.specs.Kinds.{Kind, Laws, Idempotent}
+use Rattle.weights.specs.Kinds.{Laws, Idempotent}
 use Rattle.weights.specs.DaysKind.{Weekday, monday, tuesday, wednesday, thursday, friday, saturday, sunday, every-weekday, some-weekday, days-kind}
 
 or-assoc : (a b c : Bool) → ((a || b) || c) ≡ (a || (b || c))

@@ -1,7 +1,7 @@
 -- What a mask's bits say of its days: the bits of a union or an intersection are those of the days, and a mask of seven
 -- bits is known by its days.
 use mathlib.Core.Path.{_≡_, sym, ap, _∙_, fun-ext}
-use mathlib.Core.Bool.{Bool, true, false, not, cond, _||_, _&&_}
+use mathlib.Core.Bool.{not, _||_, _&&_}
 use Prim.Native.Nat.{ℕ, max, min, _+_, _*_, _/_, _%_, _^_, _<_}
 use native.Mathlib.Omega.{arith}
 use lib.Bits.{bitOr, bitAnd, or-step, and-step, or-shr, and-shr}

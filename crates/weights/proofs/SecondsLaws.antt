@@ -1,6 +1,5 @@
 -- Seconds keeps the laws: those of numbers by arithmetic, and by cases where a weight is absent.
 use mathlib.Core.Path.{_≡_, refl, ap}
-use mathlib.Core.Bool.{Bool, true, false}
 use Prim.Native.Nat.{ℕ, max, _+_, _/_, _≤_}
 use native.Mathlib.Omega.{arith}
 use lib.IntN.{ℤ, pos, negsuc, _+ℤ_, natAbs, +ℤ-assoc, +ℤ-idl, +ℤ-idr}

@@ -1,6 +1,5 @@
 -- Days: sets of weekdays as a kind of weight. Choice is the union, chaining what both have.
 use mathlib.Core.Bool.{Bool, true, false, cond, not, _||_, _&&_}
-use mathlib.Core.List.{List, [], _∷_}
 use Prim.Native.Nat.{ℕ, _/_, _%_, _^_}
 use lib.Dec.{eqb}
 use Rattle.weights.specs.Kinds.{Kind}

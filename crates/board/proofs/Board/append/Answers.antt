@@ -8,14 +8,13 @@ use Prim.Native.Nat.{_≤_}
 use Rattle.std.proofs.shelf.Lists.{length-append}
 use Rattle.std.specs.Of.Vec.{vec-items, vec-len}
 use Rattle.std.specs.declared.option.Option.the-variants.{None}
-use Rattle.timetable.specs.declared.Constraint.{Constraint}
 use Rattle.runs.specs.Tables.{in-range}
 use Rattle.board.specs.Circuits.{NoFreeCircuit, closes-circuit}
 use Rattle.board.specs.Invariant.{all-in-range}
 use Rattle.board.specs.Ledger.{nothing, holding, early-add-fault, constraint-of}
 use Rattle.board.specs.Holding.{held-by, ledger-of}
 use Rattle.board.proofs.Openings.{opening-events}
-use Rattle.board.proofs.Additions.{passed, passed-in-range, range-more, sound-more, circuit-refused, addition-accepted}
+use Rattle.board.proofs.Additions.{passed, passed-in-range, range-more, sound-more, circuit-refused}
 use Rattle.board.proofs.Board.append.Needs as need
 
 pub closes-circuit-requires : need.closes-circuit-requires

@@ -1,5 +1,4 @@
 use borrow.Author.Needs.{needs}
-use Rattle.board_file.specs.Encodings.{Bytes}
 use Rattle.board.specs.Holding.{held-by}
 use Rattle.board.proofs.Loading.{load-law}
 use Rattle.board.proofs.Board.load.Needs as need

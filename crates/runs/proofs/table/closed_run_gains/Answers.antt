@@ -1,5 +1,4 @@
 use mathlib.Core.Path.{sym, subst, _∙_}
-use native.Mathlib.Omega.{arith}
 use Rattle.runs.specs.Runs.{closed-runs}
 use Rattle.runs.specs.Links.{net-of, at}
 use Rattle.runs.specs.Rounds.{Fit}
