@@ -19,12 +19,13 @@ use Rattle.board_file.specs.declared.OpeningRecord.{OpeningRecord}
 use Rattle.board_file.specs.declared.Entry.the-variants.{Add, End}
 use Rattle.board_file.specs.Frames.{end-at}
 use Rattle.board_file.specs.Records.{opening-at, departures-at, departures-reply, departures-after, entry-at}
+use Rattle.board_file.specs.Loading.{and-then}
 use Rattle.board_file.specs.Encodings.{Bytes}
 use Rattle.board_file.proofs.Encoding.{loads-encodings}
 use Rattle.board_file.proofs.Steps.{entries-refused, entries-judged, entries-more, entries-ended, entries-trailing, load-opening-refused, load-judged, load-departures-refused, load-begin-refused, load-begun}
 use Rattle.board.specs.declared.fault.BoardFault.{BoardFault}
-use Rattle.board.specs.Ledger.{Held, Ledger, nothing, holding, unless-refused, open-fault, opened-as, open-after, constraint-of, add-fault, with-row, add-after}
-use Rattle.board.specs.Loads.{grown, unless-fault, then-call, judged-at-opening, opened-by, performed-by, load-held, loaded-ledger, load-after, LoadLaw, entries-held}
+use Rattle.board.specs.Ledger.{Held, Ledger, nothing, holding, unless-refused, open-fault, opened-as, open-after, constraint-of, add-fault, grown, with-row, add-after}
+use Rattle.board.specs.Loads.{unless-fault, judged-at-opening, opened-by, performed-by, load-held, loaded-ledger, load-after, LoadLaw, entries-held}
 
 -- what a ledger says of the board that it stands for
 pub held-from : (opened : Bool) (h g : Held) → cond opened (holding h) nothing ≡ holding g → (opened ≡ true) × (h ≡ g)
@@ -32,11 +33,11 @@ held-from true h g e = (refl, cc)
 held-from false h g e = absurd (let z : _≡_ {A = ℕ} 0 1 = cc in omega arith)
 
 -- an addition that is accepted, and one that is refused
-accepted-by : (h : Held) (a : Addition) → add-fault (holding h) a ≡ None → performed-by h a ≡ Ok (grown h a)
-accepted-by h a e = ap (λ f. then-call (unless-fault f (grown h a)) (λ k. Ok k)) e
+accepted-by : (h : Held) (a : Addition) → add-fault (holding h) a ≡ None → performed-by h a ≡ Ok (grown h (constraint-of a))
+accepted-by h a e = ap (λ f. and-then (unless-fault f (grown h (constraint-of a))) (λ k. Ok k)) e
 
 refused-by : (h : Held) (a : Addition) (f : BoardFault) → add-fault (holding h) a ≡ Some f → performed-by h a ≡ Err f
-refused-by h a f e = ap (λ x. then-call (unless-fault x (grown h a)) (λ k. Ok k)) e
+refused-by h a f e = ap (λ x. and-then (unless-fault x (grown h (constraint-of a))) (λ k. Ok k)) e
 
 module _ (bytes : List ℕ) (place : ℕ) (h : Held) where
   pub step-refused : (e : RecordFault) → entry-at bytes place ≡ Err e → entries-held bytes place h ≡ Err (Record e)
@@ -65,9 +66,9 @@ module _ (bytes : List ℕ) (place : ℕ) (h : Held) where
   unfolding entries-held
   step-added l a opened after held is accepted left =
       let fault : add-fault (holding h) a ≡ None = sym (accepted ∙ ap (λ x. add-fault x a) held) in
-      let same : cond opened (holding after) nothing ≡ holding (grown h a) = left ∙ ap (λ x. unless-refused x (with-row l (constraint-of a)) l) (sym accepted) ∙ ap (λ x. with-row x (constraint-of a)) held in
-      let found = held-from opened after (grown h a) same in
-      (found .0, entries-more performed-by bytes (length bytes) (length bytes) place h (grown h a) a (omega arith) (omega arith) is (accepted-by h a fault) ∙ ap (λ x. entries-held bytes (place + 10) x) (sym (found .1)))
+      let same : cond opened (holding after) nothing ≡ holding (grown h (constraint-of a)) = left ∙ ap (λ x. unless-refused x (with-row l (constraint-of a)) l) (sym accepted) ∙ ap (λ x. with-row x (constraint-of a)) held in
+      let found = held-from opened after (grown h (constraint-of a)) same in
+      (found .0, entries-more performed-by bytes (length bytes) (length bytes) place h (grown h (constraint-of a)) a (omega arith) (omega arith) is (accepted-by h a fault) ∙ ap (λ x. entries-held bytes (place + 10) x) (sym (found .1)))
 
 -- one entry more: what is to come of it is what was to come
 pub step-on : (bytes : List ℕ) (start place next : ℕ) (first before after : Held) → entries-held bytes place before ≡ entries-held bytes start first → entries-held bytes place before ≡ entries-held bytes next after → entries-held bytes next after ≡ entries-held bytes start first

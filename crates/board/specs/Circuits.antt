@@ -16,7 +16,7 @@ use Rattle.timetable.specs.Words.{link-of, free-days, free-net}
 abbrev pub NoFreeCircuit : List Constraint → Type 0
 NoFreeCircuit rows = (d : Weekday) (i : ℕ) (run : List ℕ) → IsCircuit (free-net d rows) i run → ⊥
 
--- the days on which the constraint of a number stands or is suspended without a token
+-- the days of the mask of the constraint of a number, where it stands or is suspended and has no token; else none
 abbrev pub free-at : List Constraint → ℕ → Weekday → Bool
 free-at rows k = getD (map free-days rows) k (days-kind .none)
 

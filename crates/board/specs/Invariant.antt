@@ -26,9 +26,10 @@ opening-in-range events period departures = in-range events && (period-in-range 
 abbrev pub constraint-in-range : ℕ → Constraint → Bool
 constraint-in-range events c = (ltb (c .from) events && ltb (c .to) events) && (leb (c .time) 14400 && (leb (c .tokens) 7 && (leb 1 (c .days) && leb (c .days) 127)))
 
+-- every constraint is within its ranges
 abbrev pub all-in-range : ℕ → List Constraint → Bool
 all-in-range events rows = every (constraint-in-range events) rows
 
--- a kept recovery table that is marked current is that of the constraints standing on its day
+-- a kept recovery table that is marked current is that of the constraints that count on its day
 abbrev pub KeptHolds : Bool → ℕ → List ℕ → ℕ → List Constraint → List Cell → Type 0
 KeptHolds current day departures period rows cells = current ≡ true → IsRecoveryTable day departures period rows cells

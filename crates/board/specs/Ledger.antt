@@ -53,6 +53,7 @@ abbrev pub unless-refused : Option BoardFault → Ledger → Ledger → Ledger
 unless-refused None after before = after
 unless-refused (Some fault) after before = before
 
+-- what an opening leaves
 abbrev pub open-after : Ledger → ℕ → ℕ → ℕ → List ℕ → Ledger
 open-after l mark events period departures = unless-refused (open-fault l events period departures) (holding (opened-as mark events period departures)) l
 
@@ -75,11 +76,16 @@ abbrev pub add-fault : Ledger → Addition → Option BoardFault
 add-fault nothing a = Some New
 add-fault (holding h) a = early-add-fault (h .events) (length (h .rows)) a (unless (not (closes-circuit (h .events) (h .rows) a)) Circuit None)
 
--- an accepted addition appends its row, standing
+-- what is held after one more constraint
+abbrev pub grown : Held → Constraint → Held
+grown h c = record { mark = h .mark; events = h .events; period = h .period; departures = h .departures; rows = h .rows ++ c ∷ [] }
+
+-- the ledger with one more row
 abbrev pub with-row : Ledger → Constraint → Ledger
 with-row nothing c = nothing
-with-row (holding h) c = holding (record { mark = h .mark; events = h .events; period = h .period; departures = h .departures; rows = h .rows ++ c ∷ [] })
+with-row (holding h) c = holding (grown h c)
 
+-- an accepted addition appends its row, standing
 abbrev pub add-after : Ledger → Addition → Ledger
 add-after l a = unless-refused (add-fault l a) (with-row l (constraint-of a)) l
 

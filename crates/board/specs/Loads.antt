@@ -1,6 +1,6 @@
 -- Loading: what a board file's records come to on the plain ledger, and which files are accepted.
 use mathlib.Core.Path.{_≡_}
-use mathlib.Core.List.{List, [], _∷_, _++_}
+use mathlib.Core.List.{List, [], _∷_}
 use mathlib.Core.Logic.{_↔_}
 use Prim.Native.Nat.{ℕ, _<_, _≤_}
 use lib.ListN.{length}
@@ -16,11 +16,11 @@ use Rattle.board_file.specs.declared.LoadFault.the-variants.{Record, Judged}
 use Rattle.board_file.specs.declared.OpeningRecord.{OpeningRecord}
 use Rattle.board_file.specs.Faults.{record-report}
 use Rattle.board_file.specs.Records.{opening-at, departures-at}
-use Rattle.board_file.specs.Loading.{entries-from, load-file, Accepted}
+use Rattle.board_file.specs.Loading.{and-then, entries-from, load-file, Accepted}
 use Rattle.board.specs.declared.fault.BoardFault.{BoardFault}
 use Rattle.board.specs.declared.fault.BoardFault.the-variants.{Opened}
-use Rattle.board.specs.Faults.{report-of}
-use Rattle.board.specs.Ledger.{Held, Ledger, nothing, holding, head-fault, open-fault, opened-as, constraint-of, add-fault}
+use Rattle.board.specs.Faults.{board-report}
+use Rattle.board.specs.Ledger.{Held, Ledger, nothing, holding, head-fault, open-fault, opened-as, constraint-of, add-fault, grown}
 
 -- the calls that a field of a file can stand for
 pub data Call : Type 0 where
@@ -30,28 +30,19 @@ pub data Call : Type 0 where
 abbrev pub stands-for : Addition → List Call
 stands-for a = adding a ∷ []
 
--- what is held with a fault, or the other
+-- the fault where there is one, else what is held
 abbrev pub unless-fault : Option BoardFault → Held → Result Held BoardFault
 unless-fault None held = Ok held
 unless-fault (Some fault) held = Err fault
 
--- what is held after one more constraint
-abbrev pub grown : Held → Addition → Held
-grown h a = record { mark = h .mark; events = h .events; period = h .period; departures = h .departures; rows = h .rows ++ constraint-of a ∷ [] }
-
 -- one call on an opened board: its fault, or what is then held
 abbrev pub called : Held → Call → Result Held BoardFault
-called h (adding a) = unless-fault (add-fault (holding h) a) (grown h a)
-
--- go on from what is held, or stop at the fault
-abbrev pub then-call : Result Held BoardFault → (Held → Result Held BoardFault) → Result Held BoardFault
-then-call (Ok h) next = next h
-then-call (Err fault) next = Err fault
+called h (adding a) = unless-fault (add-fault (holding h) a) (grown h (constraint-of a))
 
 -- calls in order, up to the first fault
 abbrev pub called-in-order : Held → List Call → Result Held BoardFault
 called-in-order h [] = Ok h
-called-in-order h (c ∷ calls) = then-call (called h c) (λ k. called-in-order k calls)
+called-in-order h (c ∷ calls) = and-then (called h c) (λ k. called-in-order k calls)
 
 -- the number of events and the period are judged at the opening record
 abbrev pub judged-at-opening : OpeningRecord → Option BoardFault
@@ -74,6 +65,7 @@ abbrev pub load-fault : Ledger → List ℕ → Option (LoadFault BoardFault)
 load-fault (holding h) bytes = Some (Judged 0 Opened)
 load-fault nothing bytes = fault-of (load-held bytes)
 
+-- the ledger of a board loaded with what is held; a refused load leaves it new
 abbrev pub loaded-ledger : Result Held (LoadFault BoardFault) → Ledger
 loaded-ledger (Ok h) = holding h
 loaded-ledger (Err fault) = nothing
@@ -89,13 +81,14 @@ abbrev pub LoadLaw : Ledger → List ℕ → Ledger → Type 0
 LoadLaw (holding h) bytes after = after ≡ holding h
 LoadLaw nothing bytes after = (h : Held) → (after ≡ holding h) ↔ Accepted judged-at-opening opened-by performed-by bytes h
 
--- layer, number and place of a load's fault: a board's fault keeps its layer and number, and has the place of the tag
+-- a report at another place
 abbrev pub placed : ℕ → Report → Report
 placed place r = record { layer = r .layer; number = r .number; place = place }
 
+-- layer, number and place of a load's fault: a board's fault keeps its layer and number, and has the place of its field's tag
 abbrev pub load-report : LoadFault BoardFault → Report
 load-report (Record fault) = record-report fault
-load-report (Judged place fault) = placed place (report-of fault)
+load-report (Judged place fault) = placed place (board-report fault)
 
 -- the entries from a place on, on what is held there: what they leave, or the first fault
 unfoldable pub entries-held : List ℕ → ℕ → Held → Result Held (LoadFault BoardFault)

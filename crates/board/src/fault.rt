@@ -1,6 +1,6 @@
 // The board's faults.
 ghost use mathlib.Core.Path.{_≡_};
-ghost use Rattle.board.specs.Faults.{report-of};
+ghost use Rattle.board.specs.Faults.{board-report};
 use faults::Layer;
 use faults::Report;
 
@@ -38,7 +38,7 @@ pub enum BoardFault {
 impl BoardFault {
     // The fault's layer, number and place.
     pub fn report(self) -> Report
-        ensures { λ r. ⌜ r ≡ report-of self ⌝ }
+        ensures { λ r. ⌜ r ≡ board-report self ⌝ }
     {
         let number = match self {
             BoardFault::New => 1,

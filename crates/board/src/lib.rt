@@ -17,7 +17,7 @@ mod summary;
 pub use fault::BoardFault;
 pub use fault::BoardFaultDebug;
 pub use fault::BoardFaultPartialEq;
-pub use load::report_of;
+pub use load::load_report;
 pub use summary::Summary;
 pub use summary::SummaryDebug;
 pub use summary::SummaryPartialEq;

@@ -23,7 +23,7 @@ use board_file::read_opening;
 use faults::Report;
 
 // The layer, number and place of a load's fault: a board's fault keeps its layer and number, and has the place of its field's tag.
-pub fn report_of(fault: LoadFault<BoardFault>) -> Report
+pub fn load_report(fault: LoadFault<BoardFault>) -> Report
     ensures { λ r. ⌜ r ≡ load-report fault ⌝ }
 {
     match fault {
@@ -122,7 +122,7 @@ impl Board {
     }
 
     // Loads a new board from a file: its opening, its departures and its fields in order. Refused with 2, with the faults of frames and
-    // records, 24 to 27, and with those of opening and adding; a refused load leaves the board new.
+    // records, 24 to 27, and with those of opening and adding; a refused load leaves the board as it was.
     pub fn load(&mut self, bytes: &[u8]) -> Result<(), LoadFault<BoardFault>>
         ensures reply { λ r. ⌜ fault-of r ≡ load-fault (ledger-of (now (self .entry))) (now (bytes .entry)) ⌝ }
         ensures after { λ _. ⌜ ledger-of (now (self .exit)) ≡ load-after (ledger-of (now (self .entry))) (now (bytes .entry)) ⌝ }

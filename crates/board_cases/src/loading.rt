@@ -5,7 +5,7 @@ use board::Board;
 use board::Summary;
 use board::SummaryDebug;
 use board::SummaryPartialEq;
-use board::report_of;
+use board::load_report;
 use faults::Layer;
 use faults::Report;
 use faults::ReportDebug;
@@ -20,7 +20,7 @@ fn refused(heap: Global, bytes: &[u8]) -> Result<Report, Fail> {
         return Err(Fail::new("the file was loaded"));
     };
     check_eq(board.summary(), None)?;
-    Ok(report_of(fault))
+    Ok(load_report(fault))
 }
 
 fn report(layer: Layer, number: u8, place: usize) -> Report {
@@ -59,7 +59,7 @@ fn an_opened_board_is_not_loaded(rt: LibcRuntime) -> Result<(), Fail> {
     let Err(fault) = board.load(&[9]) else {
         return Err(Fail::new("loaded twice"));
     };
-    check_eq(report_of(fault), report(Layer::Board, 2, 0))
+    check_eq(load_report(fault), report(Layer::Board, 2, 0))
 }
 
 #[test]
@@ -131,7 +131,7 @@ fn the_boards_faults_lie_at_their_tags(rt: LibcRuntime) -> Result<(), Fail> {
         refused(rt.alloc(), &changed(13, 1))?,
         report(Layer::Board, 5, 10),
     )?;
-    // event 3, 19,532 seconds, 8 tokens, no day, letter X, each in the third constraint
+    // event 3, 19,482 seconds, 8 tokens, no day, letter X, each in the third constraint
     check_eq(
         refused(rt.alloc(), &changed(49, 3))?,
         report(Layer::Board, 6, 45),

@@ -36,6 +36,6 @@ field-at bytes place =
     (Err (PastEnd place)))
     (Err (PastEnd place))
 
--- the file has to end at a place: a fault where it does not
+-- the file has to end at a place: a fault there where it ends elsewhere
 abbrev pub end-at : List ℕ → ℕ → Result (Unit {0}) FrameFault
 end-at bytes place = cond (eqb place (length bytes)) (Ok tt) (Err (Trailing place))

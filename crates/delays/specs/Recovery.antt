@@ -8,13 +8,9 @@ use mathlib.Core.Bool.{cond}
 use Rattle.std.specs.declared.option.Option.{Option}
 use Rattle.std.specs.declared.option.Option.the-variants.{Some, None}
 use Rattle.runs.specs.Nets.{Net}
-use Rattle.runs.specs.Runs.{longer, runs-below}
+use Rattle.runs.specs.Runs.{some-runs}
 use Rattle.timetable.specs.declared.Constraint.{Constraint}
 use Rattle.timetable.specs.Words.{row-at, slack-of, counted-net}
-
--- the runs of 1 to n links from i to j
-abbrev pub some-runs : Net → ℕ → ℕ → ℕ → List (List ℕ)
-some-runs net n i j = longer net (λ e. runs-below net n e j) i (net .links)
 
 -- a run's total slack
 abbrev pub total-slack : (ℕ → ℤ) → List ℕ → ℤ
@@ -31,8 +27,7 @@ abbrev pub least : List ℤ → Option ℤ
 least [] = None
 least (a ∷ rest) = lesser a (least rest)
 
--- the recovery time from i to j: the least total slack over non-empty runs from i to j, or none without a run; runs of at most n
--- links among n events suffice where no slack is negative
+-- the recovery time from i to j among n events: the least total slack over the runs of 1 to n links from i to j, or none without one
 unfoldable pub recovery : Net → (ℕ → ℤ) → ℕ → ℕ → ℕ → Option ℤ
 recovery net slack n i j = least (map (total-slack slack) (some-runs net n i j))
 

@@ -2,7 +2,7 @@
 ghost use mathlib.Core.Path.{_≡_};
 ghost use Rattle.delays.specs.Cells.{empty-cell, told};
 
-// Above every recovery time, and twice as much still fits 32 bits.
+// Recovery times of a board lie far below it, and twice as much still fits 32 bits.
 const NO_WAY: u32 = 1_073_741_824;
 
 // A recovery time in seconds, or none where there is no run: `NO_WAY` stands for none.

@@ -22,7 +22,7 @@ use Rattle.runs.specs.Nets.{Net, Within}
 use Rattle.runs.specs.Runs.{closed-runs}
 use Rattle.runs.specs.Gaining.{some-gains, gaining-event, SomeCircuitGains, NoCircuitGains, LeastAbove}
 use Rattle.runs.specs.Links.{net-of, at}
-use Rattle.runs.specs.Faults.{report-of}
+use Rattle.runs.specs.Faults.{table-report}
 use Rattle.runs.specs.Rounds.{Fit}
 use Rattle.runs.specs.Tables.{in-range, events-below, right-lengths, spans-at-most-one, gain-fault, early-fault, table-fault, CellsAfter, Tabled, Cause, LowestCause, TableLaw}
 use Rattle.runs.proofs.Extending.{net-within}
@@ -80,7 +80,7 @@ module _ (K : Kind) {X : Type 0} (m : X → K .carrier) (n : ℕ) (ls : List Lin
           → LowestCause K m n ls ws cells spare (reply-of (unless a EventCount (unless b Event (unless c Length (unless d Span (gain-fault o))))))
       causes false b c d o ea eb ec ed eo = (ea, least)
         where
-          least : (other : TableFault) → Cause K m n ls ws cells spare other → 3 ≤ report-of other .number
+          least : (other : TableFault) → Cause K m n ls ws cells spare other → 3 ≤ table-report other .number
           least EventCount h = omega arith
           least Event h = omega arith
           least Length h = omega arith
@@ -88,7 +88,7 @@ module _ (K : Kind) {X : Type 0} (m : X → K .carrier) (n : ℕ) (ls : List Lin
           least (Gain j) h = omega arith
       causes true false c d o ea eb ec ed eo = (eb, least)
         where
-          least : (other : TableFault) → Cause K m n ls ws cells spare other → 6 ≤ report-of other .number
+          least : (other : TableFault) → Cause K m n ls ws cells spare other → 6 ≤ table-report other .number
           least EventCount h = absurd (clash (sym h ∙ ea))
           least Event h = omega arith
           least Length h = omega arith
@@ -96,7 +96,7 @@ module _ (K : Kind) {X : Type 0} (m : X → K .carrier) (n : ℕ) (ls : List Lin
           least (Gain j) h = omega arith
       causes true true false d o ea eb ec ed eo = (ec, least)
         where
-          least : (other : TableFault) → Cause K m n ls ws cells spare other → 18 ≤ report-of other .number
+          least : (other : TableFault) → Cause K m n ls ws cells spare other → 18 ≤ table-report other .number
           least EventCount h = absurd (clash (sym h ∙ ea))
           least Event h = absurd (clash (sym h ∙ eb))
           least Length h = omega arith
@@ -104,7 +104,7 @@ module _ (K : Kind) {X : Type 0} (m : X → K .carrier) (n : ℕ) (ls : List Lin
           least (Gain j) h = omega arith
       causes true true true false o ea eb ec ed eo = (ed, least)
         where
-          least : (other : TableFault) → Cause K m n ls ws cells spare other → 22 ≤ report-of other .number
+          least : (other : TableFault) → Cause K m n ls ws cells spare other → 22 ≤ table-report other .number
           least EventCount h = absurd (clash (sym h ∙ ea))
           least Event h = absurd (clash (sym h ∙ eb))
           least Length h = absurd (clash (sym h ∙ ec))
@@ -112,7 +112,7 @@ module _ (K : Kind) {X : Type 0} (m : X → K .carrier) (n : ℕ) (ls : List Lin
           least (Gain j) h = omega arith
       causes true true true true (Some i) ea eb ec ed eo = (eo, least)
         where
-          least : (other : TableFault) → Cause K m n ls ws cells spare other → 23 ≤ report-of other .number
+          least : (other : TableFault) → Cause K m n ls ws cells spare other → 23 ≤ table-report other .number
           least EventCount h = absurd (clash (sym h ∙ ea))
           least Event h = absurd (clash (sym h ∙ eb))
           least Length h = absurd (clash (sym h ∙ ec))

@@ -5,9 +5,9 @@ use Rattle.runs.specs.declared.TableFault.{TableFault}
 use Rattle.runs.specs.declared.TableFault.the-variants.{EventCount, Event, Length, Span, Gain}
 
 -- a refusal of the table: all have layer table, and only a gain has a place other than 0, its event
-abbrev pub report-of : TableFault → Report
-report-of EventCount = record { layer = Table; number = 3; place = 0 }
-report-of Event = record { layer = Table; number = 6; place = 0 }
-report-of Length = record { layer = Table; number = 18; place = 0 }
-report-of Span = record { layer = Table; number = 22; place = 0 }
-report-of (Gain event) = record { layer = Table; number = 23; place = event }
+abbrev pub table-report : TableFault → Report
+table-report EventCount = record { layer = Table; number = 3; place = 0 }
+table-report Event = record { layer = Table; number = 6; place = 0 }
+table-report Length = record { layer = Table; number = 18; place = 0 }
+table-report Span = record { layer = Table; number = 22; place = 0 }
+table-report (Gain event) = record { layer = Table; number = 23; place = event }

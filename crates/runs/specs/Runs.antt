@@ -20,9 +20,13 @@ abbrev pub runs-below : Net → ℕ → ℕ → ℕ → List (List ℕ)
 runs-below net zero i j = []
 runs-below net (suc k) i j = standing i j ++ longer net (λ e. runs-below net k e j) i (net .links)
 
+-- the runs of 1 to n links from i to j
+abbrev pub some-runs : Net → ℕ → ℕ → ℕ → List (List ℕ)
+some-runs net n i j = longer net (λ e. runs-below net n e j) i (net .links)
+
 -- the closed runs of 1 to n links from j back to j
 abbrev pub closed-runs : Net → ℕ → ℕ → List (List ℕ)
-closed-runs net n j = longer net (λ e. runs-below net n e j) j (net .links)
+closed-runs net n j = some-runs net n j j
 
 -- a run's weight chains its links in order, and the empty run weighs start
 abbrev pub weigh : (K : Kind) → (ℕ → K .carrier) → List ℕ → K .carrier

@@ -19,7 +19,7 @@ use Rattle.runs.specs.declared.TableFault.the-variants.{EventCount, Event, Len
 use Rattle.runs.specs.Runs.{cell}
 use Rattle.runs.specs.Gaining.{gaining-event, SomeCircuitGains, NoCircuitGains, LeastAbove}
 use Rattle.runs.specs.Links.{net-of, at}
-use Rattle.runs.specs.Faults.{report-of}
+use Rattle.runs.specs.Faults.{table-report}
 
 -- whether every element of a list passes a test
 abbrev pub every : {X : Type 0} → (X → Bool) → List X → Bool
@@ -46,6 +46,7 @@ right-lengths n ls ws cells spare = leb (length ls) 128 && (eqb (length ls) (len
 abbrev pub spans-at-most-one : (K : Kind) {X : Type 0} → (X → K .carrier) → List X → Bool
 spans-at-most-one K m ws = every (λ w. leb (K .span (m w)) 1) ws
 
+-- the fault of a gain at an event, where there is one
 abbrev pub gain-fault : Option ℕ → Option TableFault
 gain-fault None = None
 gain-fault (Some event) = Some (Gain event)
@@ -98,7 +99,7 @@ module _ (K : Kind) {X : Type 0} (m : X → K .carrier) (n : ℕ) (ls : List Lin
   -- of several causes the one with the lowest number is answered, and without a cause nothing is refused
   abbrev pub LowestCause : Result (Unit {0}) TableFault → Type 0
   LowestCause (Ok done) = (fault : TableFault) → Cause fault → ⊥
-  LowestCause (Err fault) = Cause fault × ((other : TableFault) → Cause other → report-of fault .number ≤ report-of other .number)
+  LowestCause (Err fault) = Cause fault × ((other : TableFault) → Cause other → table-report fault .number ≤ table-report other .number)
 
   -- the call is refused for a gain
   abbrev pub RefusedForGain : Result (Unit {0}) TableFault → Type 0

@@ -1,6 +1,6 @@
 // Links between events, and the table of what all short runs over weighted links come to, for every kind of weight.
 ghost use mathlib.Core.Path.{_≡_};
-ghost use Rattle.runs.specs.Faults.{report-of};
+ghost use Rattle.runs.specs.Faults.{table-report};
 use faults::Layer;
 use faults::Report;
 
@@ -28,7 +28,7 @@ pub enum TableFault {
 impl TableFault {
     // The fault's layer, number and place.
     pub fn report(self) -> Report
-        ensures { λ r. ⌜ r ≡ report-of self ⌝ }
+        ensures { λ r. ⌜ r ≡ table-report self ⌝ }
     {
         let (number, place) = match self {
             TableFault::EventCount => (3, 0),

@@ -3,7 +3,7 @@ ghost use Prim.Native.Nat.{_≤_};
 ghost use lib.ListN.{length};
 ghost use Rattle.std.specs.Vec.{made};
 use board::Board;
-use board::report_of;
+use board::load_report;
 use faults::ReportDisplay;
 use std::io;
 use std::io::Read;
@@ -48,7 +48,7 @@ fn main(rt: LibcRuntime) -> io::Result<()> {
     match board.load(&page[0..len]) {
         Ok(()) => print_report(&rt, &board),
         Err(fault) => {
-            let report = report_of(fault);
+            let report = load_report(fault);
             println!(rt, "refused {report}")
         }
     }

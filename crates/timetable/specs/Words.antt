@@ -22,17 +22,20 @@ use Rattle.timetable.specs.declared.Constraint.{Constraint}
 abbrev pub letter-of : ℕ → Option Letter
 letter-of byte = cond (eqb byte 82) (Some Running) (cond (eqb byte 76) (Some Layover) (cond (eqb byte 84) (Some Transfer) (cond (eqb byte 72) (Some Headway) None)))
 
+-- the ASCII byte of a letter
 abbrev pub byte-of : Letter → ℕ
 byte-of Running = 82
 byte-of Layover = 76
 byte-of Transfer = 84
 byte-of Headway = 72
 
+-- the state of a constraint that stands
 abbrev pub stands : State → Bool
 stands Standing = true
 stands Suspended = false
 stands Withdrawn = false
 
+-- the state of a constraint that stands or is suspended
 abbrev pub live-state : State → Bool
 live-state Standing = true
 live-state Suspended = true
@@ -50,15 +53,15 @@ has-day mask day = ltb day 7 && eqb (mask / 2 ^ day % 2) 1
 abbrev pub counted : ℕ → Constraint → Bool
 counted day c = stands (c .state) && has-day (c .days) day
 
--- the slack d(to) + m × T − d(from) − t, where d(from) is `departs` and d(to) is `arrives`
+-- the slack d(to) + m × T − d(from) − t, where d(from) is `first` and d(to) is `second`
 abbrev pub slack-of : ℕ → ℕ → ℕ → Constraint → ℤ
-slack-of departs arrives period c = pos (arrives + c .tokens * period) -ℤ pos (departs + c .time)
+slack-of first second period c = pos (second + c .tokens * period) -ℤ pos (first + c .time)
 
 -- the link between the constraint's events
 abbrev pub link-of : Constraint → Link
 link-of c = record { from = c .from; to = c .to }
 
--- a constraint that stands or is suspended, has no token, and is in force on a weekday
+-- a constraint that stands or is suspended, has no token, and whose mask has a weekday
 abbrev pub free-on : Weekday → Constraint → Bool
 free-on d c = is-live c && (eqb (c .tokens) 0 && days-of (c .days) d)
 
@@ -82,6 +85,6 @@ net-where passes rows = record { links = kept-by (λ k. passes (row-at rows k)) 
 abbrev pub counted-net : ℕ → List Constraint → Net
 counted-net day rows = net-where (counted day) rows
 
--- the token-free constraints in force on a weekday, standing or suspended
+-- the token-free constraints whose masks have a weekday, standing or suspended
 abbrev pub free-net : Weekday → List Constraint → Net
 free-net d rows = net-where (free-on d) rows

@@ -120,21 +120,21 @@ impl Constraint {
         }
     }
 
-    // The slack, in seconds, where event `from` departs at `departs` and event `to` at `arrives`, in a timetable of the period.
+    // The slack, in seconds, where event `from` departs at `first` and event `to` at `second`, in a timetable of the period.
     // It may be negative.
-    pub fn slack(&self, departs: u32, arrives: u32, period: u32) -> i64
-        ensures { λ r. ⌜ r ≡ slack-of departs arrives period (now (self .entry)) ⌝ }
+    pub fn slack(&self, first: u32, second: u32, period: u32) -> i64
+        ensures { λ r. ⌜ r ≡ slack-of first second period (now (self .entry)) ⌝ }
     {
-        let latest = later_by(arrives, self.tokens, period);
-        let earliest = u64::from(departs) + u64::from(self.time);
+        let latest = later_by(second, self.tokens, period);
+        let earliest = u64::from(first) + u64::from(self.time);
         latest as i64 - earliest as i64
     }
 
     // Whether the constraint is broken: its slack is negative.
-    pub fn is_broken(&self, departs: u32, arrives: u32, period: u32) -> bool
-        ensures { λ r. ⌜ r ≡ ltZ (slack-of departs arrives period (now (self .entry))) (pos 0) ⌝ }
+    pub fn is_broken(&self, first: u32, second: u32, period: u32) -> bool
+        ensures { λ r. ⌜ r ≡ ltZ (slack-of first second period (now (self .entry))) (pos 0) ⌝ }
     {
-        self.slack(departs, arrives, period) < 0
+        self.slack(first, second, period) < 0
     }
 
     // The link that the constraint is between its events.
@@ -147,7 +147,7 @@ impl Constraint {
         }
     }
 
-    // The days on which the constraint stands or is suspended without a token.
+    // The days of the mask, where the constraint stands or is suspended and has no token; else none.
     pub fn free_days(&self) -> Days
         ensures { λ r. ⌜ days-of (r .mask) ≡ free-days (now (self .entry)) ⌝ }
     {

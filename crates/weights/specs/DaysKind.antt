@@ -4,6 +4,7 @@ use Prim.Native.Nat.{ℕ, _/_, _%_, _^_}
 use lib.Dec.{eqb}
 use Rattle.weights.specs.Kinds.{Kind}
 
+-- the seven days of a week
 pub data Weekday : Type 0 where
   monday : Weekday
   tuesday : Weekday
@@ -35,6 +36,7 @@ every-weekday a = a monday && (a tuesday && (a wednesday && (a thursday && (a fr
 abbrev pub some-weekday : (Weekday → Bool) → Bool
 some-weekday a = a monday || (a tuesday || (a wednesday || (a thursday || (a friday || (a saturday || a sunday)))))
 
+-- sets of weekdays as a kind: union, intersection, the empty set, all seven, every span 0
 abbrev pub days-kind : Kind
 days-kind = record {
   carrier = Weekday → Bool;

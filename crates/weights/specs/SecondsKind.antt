@@ -27,6 +27,7 @@ equal-numbers (pos a) (negsuc b) = false
 equal-numbers (negsuc a) (pos b) = false
 equal-numbers (negsuc a) (negsuc b) = eqb a b
 
+-- whether two are equal
 abbrev pub equal-seconds : Seconds → Seconds → Bool
 equal-seconds Absent Absent = true
 equal-seconds Absent (Of w) = false
@@ -38,6 +39,7 @@ abbrev pub span-of : Seconds → ℕ
 span-of Absent = 0
 span-of (Of v) = (natAbs v + 1073741823) / 1073741824
 
+-- seconds as a kind: the larger, the sum, absent, 0
 abbrev pub seconds-kind : Kind
 seconds-kind = record {
   carrier = Seconds;
