@@ -4,4 +4,5 @@ pub mod DaysTable
 pub mod FreeRuns
 pub mod FreeCircuits
 pub mod Additions
+pub mod Changes
 pub mod Loading

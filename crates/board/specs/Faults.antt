@@ -3,7 +3,7 @@ use Prim.Native.Nat.{ℕ}
 use Rattle.faults.specs.declared.Layer.the-variants.{Board}
 use Rattle.faults.specs.declared.Report.{Report}
 use Rattle.board.specs.declared.fault.BoardFault.{BoardFault}
-use Rattle.board.specs.declared.fault.BoardFault.the-variants.{New, Opened, EventCount, Period, Departure, Event, Time, Tokens, Days, Letter, Full, Circuit, Length}
+use Rattle.board.specs.declared.fault.BoardFault.the-variants.{New, Opened, EventCount, Period, Departure, Event, Time, Tokens, Days, Letter, Full, Circuit, Number, NotStanding, NotSuspendable, Ticket, Length}
 
 -- a number of layer board, at place 0
 abbrev pub at-board : ℕ → Report
@@ -23,4 +23,8 @@ board-report Days = at-board 9
 board-report Letter = at-board 10
 board-report Full = at-board 11
 board-report Circuit = at-board 12
+board-report Number = at-board 13
+board-report NotStanding = at-board 14
+board-report NotSuspendable = at-board 15
+board-report Ticket = at-board 16
 board-report Length = at-board 18

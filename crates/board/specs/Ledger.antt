@@ -1,6 +1,6 @@
 -- The plain ledger: what a board holds as plain values, which fault each call gets for it, and what the call leaves.
 use mathlib.Core.Path.{_≡_}
-use mathlib.Core.Bool.{not, _&&_}
+use mathlib.Core.Bool.{Bool, true, false, not, _&&_}
 use mathlib.Core.Logic.{_↔_}
 use mathlib.Core.List.{List, [], _∷_, _++_}
 use Prim.Native.Nat.{ℕ}
@@ -9,16 +9,23 @@ use lib.ListN.{length}
 use Rattle.std.specs.Options.{isSome, valueOr}
 use Rattle.std.specs.declared.option.Option.{Option}
 use Rattle.std.specs.declared.option.Option.the-variants.{Some, None}
+use Rattle.std.specs.declared.result.Result.{Result}
+use Rattle.std.specs.declared.result.Result.the-variants.{Ok, Err}
 use Rattle.faults.specs.Causes.{unless}
 use Rattle.runs.specs.Tables.{in-range}
 use Rattle.timetable.specs.declared.Addition.{Addition}
 use Rattle.timetable.specs.declared.Constraint.{Constraint}
-use Rattle.timetable.specs.declared.Letter.the-variants.{Running}
+use Rattle.timetable.specs.declared.Letter.{Letter}
+use Rattle.timetable.specs.declared.Letter.the-variants.{Running, Layover, Transfer, Headway}
 use Rattle.timetable.specs.declared.State.the-variants.{Standing}
-use Rattle.timetable.specs.Words.{letter-of}
+use Rattle.timetable.specs.declared.LedgerEvent.{LedgerEvent}
+use Rattle.timetable.specs.declared.LedgerEvent.the-variants.{Suspend, Withdraw}
+use Rattle.timetable.specs.Words.{letter-of, stands, suspended, row-at}
+use Rattle.timetable.specs.Changes.{with-time, moved, changed}
 use Rattle.board.specs.declared.fault.BoardFault.{BoardFault}
+use Rattle.board.specs.declared.Ticket.{Ticket}
 use Rattle.board.specs.declared.summary.Summary.{Summary}
-use Rattle.board.specs.declared.fault.BoardFault.the-variants.{New, Opened, EventCount, Period, Departure, Event, Time, Tokens, Days, Letter, Full, Circuit, Length}
+use Rattle.board.specs.declared.fault.BoardFault.the-variants.{New, Opened, EventCount, Period, Departure, Event, Time, Tokens, Days, Letter as LetterFault, Full, Circuit, Number, NotStanding, NotSuspendable, Ticket as TicketFault, Length}
 use Rattle.board.specs.Circuits.{closes-circuit, FreeCircuitThrough}
 use Rattle.board.specs.Invariant.{period-in-range, departures-below}
 
@@ -68,7 +75,7 @@ early-add-fault events count a next =
     (unless (leb (a .time) 14400) Time
     (unless (leb (a .tokens) 7) Tokens
     (unless (leb 1 (a .days) && leb (a .days) 127) Days
-    (unless (isSome (letter-of (a .letter))) Letter
+    (unless (isSome (letter-of (a .letter))) LetterFault
     (unless (ltb count 128) Full next)))))
 
 -- the fault of an addition
@@ -104,3 +111,65 @@ next-number (holding h) = length (h .rows)
 abbrev pub summary-of : Ledger → Option Summary
 summary-of nothing = None
 summary-of (holding h) = Some (record { events = h .events; period = h .period; constraints = length (h .rows) })
+
+-- the causes of refusing a change of a standing constraint: its number was never given, or it does not stand
+abbrev pub standing-fault : List Constraint → ℕ → Option BoardFault → Option BoardFault
+standing-fault rows k next = unless (ltb k (length rows)) Number (unless (stands (row-at rows k .state)) NotStanding next)
+
+-- the ledger with the row of one number changed, and every other row and the opening's values as they were
+abbrev pub changed-at : (Constraint → Constraint) → ℕ → Ledger → Ledger
+changed-at f k nothing = nothing
+changed-at f k (holding h) = holding (record { mark = h .mark; events = h .events; period = h .period; departures = h .departures; rows = changed f (h .rows) k })
+
+-- the fault of a retiming
+abbrev pub retime-fault : Ledger → ℕ → ℕ → Option BoardFault
+retime-fault nothing k time = Some New
+retime-fault (holding h) k time = unless (leb time 14400) Time (standing-fault (h .rows) k None)
+
+-- an accepted retiming changes the time of the one constraint
+abbrev pub retime-after : Ledger → ℕ → ℕ → Ledger
+retime-after l k time = unless-refused (retime-fault l k time) (changed-at (λ c. with-time c time) k l) l
+
+-- the fault of a withdrawal
+abbrev pub withdraw-fault : Ledger → ℕ → Option BoardFault
+withdraw-fault nothing k = Some New
+withdraw-fault (holding h) k = standing-fault (h .rows) k None
+
+-- an accepted withdrawal leaves the one constraint withdrawn
+abbrev pub withdraw-after : Ledger → ℕ → Ledger
+withdraw-after l k = unless-refused (withdraw-fault l k) (changed-at (moved Withdraw) k l) l
+
+-- a constraint of letter T or H may be suspended: a connection or a headway may be waived, running, dwell and layover may not
+abbrev pub suspendable : Letter → Bool
+suspendable Running = false
+suspendable Layover = false
+suspendable Transfer = true
+suspendable Headway = true
+
+-- the fault of a suspension
+abbrev pub suspend-fault : Ledger → ℕ → Option BoardFault
+suspend-fault nothing k = Some New
+suspend-fault (holding h) k = standing-fault (h .rows) k (unless (suspendable (row-at (h .rows) k .letter)) NotSuspendable None)
+
+-- an accepted suspension leaves the one constraint suspended
+abbrev pub suspend-after : Ledger → ℕ → Ledger
+suspend-after l k = unless-refused (suspend-fault l k) (changed-at (moved Suspend) k l) l
+
+-- the mark of an opened board
+abbrev pub mark-of : Ledger → ℕ
+mark-of nothing = 0
+mark-of (holding h) = h .mark
+
+-- the fault of restoring or dismissing by a ticket of a mark and a number
+abbrev pub spend-fault : Ledger → ℕ → ℕ → Option BoardFault
+spend-fault nothing mark k = Some New
+spend-fault (holding h) mark k = unless (eqb (h .mark) mark && suspended (row-at (h .rows) k .state)) TicketFault None
+
+-- an accepted restoration or dismissal changes the state of the one constraint
+abbrev pub spend-after : LedgerEvent → Ledger → ℕ → ℕ → Ledger
+spend-after event l mark k = unless-refused (spend-fault l mark k) (changed-at (moved event) k l) l
+
+-- where a ticket is spent there is no fault; else the fault comes with the ticket, whole
+abbrev pub SpentOrBack : Result (Unit {0}) (Ticket × BoardFault) → Ticket → Option BoardFault → Type 0
+SpentOrBack (Ok done) ticket fault = fault ≡ None
+SpentOrBack (Err back) ticket fault = (back .0 ≡ ticket) × (fault ≡ Some (back .1))

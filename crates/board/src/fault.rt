@@ -31,6 +31,14 @@ pub enum BoardFault {
     Full,
     // the addition would close a token-free circuit
     Circuit,
+    // a number that was never given to a constraint
+    Number,
+    // the constraint of the number does not stand
+    NotStanding,
+    // suspending a constraint of letter R or L
+    NotSuspendable,
+    // a ticket of another mark, or of a number that is not suspended
+    Ticket,
     // a list has the wrong length
     Length,
 }
@@ -53,6 +61,10 @@ impl BoardFault {
             BoardFault::Letter => 10,
             BoardFault::Full => 11,
             BoardFault::Circuit => 12,
+            BoardFault::Number => 13,
+            BoardFault::NotStanding => 14,
+            BoardFault::NotSuspendable => 15,
+            BoardFault::Ticket => 16,
             BoardFault::Length => 18,
         };
         Report {

@@ -11,6 +11,7 @@ use timetable::ConstraintTable;
 mod calls;
 mod circuits;
 mod fault;
+mod ledger;
 mod load;
 mod summary;
 
@@ -42,4 +43,11 @@ pub struct Board {
     ghost sound: { NoFreeCircuit (vec-items (table .rows)) },
     ghost held: { KeptHolds current day (vec-items departures) period (vec-items (table .rows)) (vec-items kept) },
     ghost blank: { (opened ≡ false → (vec-len (table .rows) ≡ 0) × (vec-len departures ≡ 0)) },
+}
+
+// What a suspension hands out: the board's mark and the constraint's number. It can neither be copied nor let go, and only restoring or
+// dismissing the constraint ends it.
+pub struct Ticket {
+    mark: u16,
+    number: u8,
 }

@@ -35,6 +35,12 @@ stands Standing = true
 stands Suspended = false
 stands Withdrawn = false
 
+-- the state of a constraint that is suspended
+abbrev pub suspended : State → Bool
+suspended Standing = false
+suspended Suspended = true
+suspended Withdrawn = false
+
 -- the state of a constraint that stands or is suspended
 abbrev pub live-state : State → Bool
 live-state Standing = true

@@ -8,10 +8,12 @@ ghost use lib.Dec.{eqb, ltb};
 ghost use lib.Signed.{ltZ};
 ghost use lib.IntN.{pos};
 ghost use Rattle.std.specs.Of.Vec.{vec-items, vec-len, vec-cap};
+ghost use Rattle.std.specs.Options.{isSome};
 ghost use Rattle.std.specs.Results.{isOk};
 ghost use Rattle.std.specs.Vec.{made, refused};
 ghost use Rattle.weights.specs.DaysKind.{days-of};
-ghost use Rattle.timetable.specs.Words.{letter-of, byte-of, is-live, counted, slack-of, link-of, free-days};
+ghost use Rattle.timetable.specs.Changes.{state-after, with-time, moved, changed};
+ghost use Rattle.timetable.specs.Words.{letter-of, byte-of, is-live, counted, slack-of, link-of, free-days, row-at};
 use runs::Link;
 use std::alloc::AllocError;
 use std::alloc::Global;
@@ -47,6 +49,15 @@ pub enum State {
     Standing,
     Suspended,
     Withdrawn,
+}
+
+// What the ledger does to the state of a constraint.
+#[derive(Clone, Copy, PartialEq, Eq, Debug)]
+pub enum LedgerEvent {
+    Suspend,
+    Restore,
+    Dismiss,
+    Withdraw,
 }
 
 // A constraint: the departure of event `to` is at least `time` seconds after that of event `from`, `tokens` periods before; on
@@ -158,6 +169,29 @@ impl Constraint {
         }
     }
 
+    // Gives the constraint another time.
+    pub fn retime(&mut self, time: u16)
+        ensures { λ _. ⌜ now (self .exit) ≡ with-time (now (self .entry)) time ⌝ }
+    {
+        self.time = time;
+    }
+
+    // Changes the state by an event and answers yes; where the event is not due in the state, nothing changes and the answer is no.
+    pub fn change(&mut self, event: LedgerEvent) -> bool
+        ensures due { λ r. ⌜ r ≡ isSome (state-after (now (self .entry) .state) event) ⌝ }
+        ensures after { λ _. ⌜ now (self .exit) ≡ moved event (now (self .entry)) ⌝ }
+    {
+        let state = match (self.state, event) {
+            (State::Standing, LedgerEvent::Suspend) => State::Suspended,
+            (State::Standing, LedgerEvent::Withdraw) => State::Withdrawn,
+            (State::Suspended, LedgerEvent::Restore) => State::Standing,
+            (State::Suspended, LedgerEvent::Dismiss) => State::Withdrawn,
+            _ => return false,
+        };
+        self.state = state;
+        true
+    }
+
     // Whether the constraint stands or is suspended and has no token.
     fn is_free(&self) -> bool
         ensures { λ r. ⌜ r ≡ (is-live (now (self .entry)) && eqb (now (self .entry) .tokens) 0) ⌝ }
@@ -211,5 +245,33 @@ impl ConstraintTable {
         }
         self.rows.push_reserved(constraint);
         Ok(())
+    }
+
+    // Gives the constraint of a number another time, and answers whether there is one.
+    pub fn retime(&mut self, number: usize, time: u16) -> bool
+        ensures given { λ r. ⌜ r ≡ ltb number (vec-len (now (self .entry) .rows)) ⌝ }
+        ensures rows { λ _. ⌜ vec-items (now (self .exit) .rows) ≡ changed (λ c. with-time c time) (vec-items (now (self .entry) .rows)) number ⌝ }
+        ensures capacity { λ _. ⌜ vec-cap (now (self .exit) .rows) ≡ vec-cap (now (self .entry) .rows) ⌝ }
+    {
+        if number >= self.rows.len() {
+            return false;
+        }
+        let constraint = &mut self.rows[number];
+        constraint.retime(time);
+        true
+    }
+
+    // Changes the state of the constraint of a number by an event and answers yes; where there is none, or the event is not due in its
+    // state, nothing changes and the answer is no.
+    pub fn change(&mut self, number: usize, event: LedgerEvent) -> bool
+        ensures due { λ r. ⌜ r ≡ isSome (state-after (row-at (vec-items (now (self .entry) .rows)) number .state) event) ⌝ }
+        ensures rows { λ _. ⌜ vec-items (now (self .exit) .rows) ≡ changed (moved event) (vec-items (now (self .entry) .rows)) number ⌝ }
+        ensures capacity { λ _. ⌜ vec-cap (now (self .exit) .rows) ≡ vec-cap (now (self .entry) .rows) ⌝ }
+    {
+        if number >= self.rows.len() {
+            return false;
+        }
+        let constraint = &mut self.rows[number];
+        constraint.change(event)
     }
 }

@@ -1,0 +1,12 @@
+use borrow.Author.Needs.{needs}
+use Rattle.timetable.proofs.Changed.{row-lent}
+use Rattle.board.proofs.ledger.standing_fault.Needs as need
+
+pub returns-in-Standing : need.returns-in-Standing
+returns-in-Standing c = search (needs, row-lent)
+
+pub returns-in-Suspended : need.returns-in-Suspended
+returns-in-Suspended c = search (needs, row-lent)
+
+pub returns-in-Withdrawn : need.returns-in-Withdrawn
+returns-in-Withdrawn c = search (needs, row-lent)

@@ -1,0 +1,9 @@
+use borrow.Author.Needs.{needs}
+use Rattle.timetable.proofs.Changed.{changed-set, changed-past, row-past, row-lent}
+use Rattle.timetable.proofs.ConstraintTable.change.Needs as need
+
+pub returns-then-number-len : need.returns-then-number-len
+returns-then-number-len c = search (needs, changed-past, row-past)
+
+pub returns : need.returns
+returns c = search (needs, changed-set, row-lent)
