@@ -2,14 +2,14 @@
 use mathlib.Core.Path.{_≡_, refl, sym, ap, subst, _∙_, fun-ext}
 use mathlib.Core.Bool.{Bool, true, _&&_}
 use mathlib.Core.List.{List, [], _∷_, map}
-use Prim.Native.Nat.{ℕ, zero, suc, _<_, _≤_}
+use Prim.Native.Nat.{ℕ, zero, suc, _≤_}
 use native.Mathlib.Omega.{arith}
-use lib.Dec.{eqb, leb, ltb}
+use lib.Dec.{eqb}
 use lib.ListN.{length}
 use Rattle.std.proofs.shelf.Ways.{tells}
 use Rattle.std.specs.Options.{valueOr}
 use Rattle.weights.specs.DaysKind.{Weekday, days-of}
-use Rattle.runs.specs.Nets.{Distinct, IsRun, IsCircuit}
+use Rattle.runs.specs.Nets.{Distinct, IsRun}
 use Rattle.runs.proofs.Searches.{and-both, and-first, and-second}
 use Rattle.timetable.specs.declared.Constraint.{Constraint}
 use Rattle.timetable.specs.declared.State.{State}

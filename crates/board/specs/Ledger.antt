@@ -1,6 +1,6 @@
 -- The plain ledger: what a board holds as plain values, which fault each call gets for it, and what the call leaves.
 use mathlib.Core.Path.{_≡_}
-use mathlib.Core.Bool.{Bool, true, false, not, _&&_}
+use mathlib.Core.Bool.{not, _&&_}
 use mathlib.Core.Logic.{_↔_}
 use mathlib.Core.List.{List, [], _∷_, _++_}
 use Prim.Native.Nat.{ℕ}
@@ -15,12 +15,11 @@ use Rattle.faults.specs.Causes.{unless}
 use Rattle.runs.specs.Tables.{in-range}
 use Rattle.timetable.specs.declared.Addition.{Addition}
 use Rattle.timetable.specs.declared.Constraint.{Constraint}
-use Rattle.timetable.specs.declared.Letter.{Letter}
-use Rattle.timetable.specs.declared.Letter.the-variants.{Running, Layover, Transfer, Headway}
+use Rattle.timetable.specs.declared.Letter.the-variants.{Running}
 use Rattle.timetable.specs.declared.State.the-variants.{Standing}
 use Rattle.timetable.specs.declared.LedgerEvent.{LedgerEvent}
 use Rattle.timetable.specs.declared.LedgerEvent.the-variants.{Suspend, Withdraw}
-use Rattle.timetable.specs.Words.{letter-of, stands, suspended, row-at}
+use Rattle.timetable.specs.Words.{letter-of, suspendable, stands, suspended, row-at}
 use Rattle.timetable.specs.Changes.{with-time, moved, changed}
 use Rattle.board.specs.declared.fault.BoardFault.{BoardFault}
 use Rattle.board.specs.declared.Ticket.{Ticket}
@@ -138,13 +137,6 @@ withdraw-fault (holding h) k = standing-fault (h .rows) k None
 -- an accepted withdrawal leaves the one constraint withdrawn
 abbrev pub withdraw-after : Ledger → ℕ → Ledger
 withdraw-after l k = unless-refused (withdraw-fault l k) (changed-at (moved Withdraw) k l) l
-
--- a constraint of letter T or H may be suspended: a connection or a headway may be waived, running, dwell and layover may not
-abbrev pub suspendable : Letter → Bool
-suspendable Running = false
-suspendable Layover = false
-suspendable Transfer = true
-suspendable Headway = true
 
 -- the fault of a suspension
 abbrev pub suspend-fault : Ledger → ℕ → Option BoardFault

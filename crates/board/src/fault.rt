@@ -1,11 +1,12 @@
 // The board's faults.
 ghost use mathlib.Core.Path.{_≡_};
+ghost use lib.Dec.{eqb};
 ghost use Rattle.board.specs.Faults.{board-report};
 use faults::Layer;
 use faults::Report;
 
 // Why a board refuses a call.
-#[derive(Clone, Copy, PartialEq, Eq, Debug)]
+#[derive(Clone, Copy, Debug)]
 pub enum BoardFault {
     // another call than opening or loading, on a new board
     New,
@@ -44,11 +45,11 @@ pub enum BoardFault {
 }
 
 impl BoardFault {
-    // The fault's layer, number and place.
-    pub fn report(self) -> Report
-        ensures { λ r. ⌜ r ≡ board-report self ⌝ }
+    // The fault's number.
+    fn number(self) -> u8
+        ensures { λ r. ⌜ r ≡ board-report self .number ⌝ }
     {
-        let number = match self {
+        match self {
             BoardFault::New => 1,
             BoardFault::Opened => 2,
             BoardFault::EventCount => 3,
@@ -66,11 +67,26 @@ impl BoardFault {
             BoardFault::NotSuspendable => 15,
             BoardFault::Ticket => 16,
             BoardFault::Length => 18,
-        };
+        }
+    }
+
+    // The fault's layer, number and place.
+    pub fn report(self) -> Report
+        ensures { λ r. ⌜ r ≡ board-report self ⌝ }
+    {
         Report {
             layer: Layer::Board,
-            number,
+            number: self.number(),
             place: 0,
         }
+    }
+}
+
+// Each fault has a number of its own.
+pub impl PartialEq<BoardFault> for BoardFault as BoardFaultPartialEq {
+    ghost equals = { λ x y r. r ≡ eqb (board-report x .number) (board-report y .number) };
+
+    fn eq(&self, other: &BoardFault) -> bool {
+        self.number() == other.number()
     }
 }

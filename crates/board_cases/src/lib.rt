@@ -1,6 +1,8 @@
-// Worked cases of opening, adding to and loading a board.
+// Worked cases of opening, adding to, changing and loading a board.
 #[cfg(test)]
 mod adding;
+#[cfg(test)]
+mod changing;
 #[cfg(test)]
 mod loading;
 #[cfg(test)]

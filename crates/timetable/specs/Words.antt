@@ -29,6 +29,13 @@ byte-of Layover = 76
 byte-of Transfer = 84
 byte-of Headway = 72
 
+-- a constraint of letter T or H may be suspended: a connection or a headway can be waived, running, dwell and layover cannot
+abbrev pub suspendable : Letter → Bool
+suspendable Running = false
+suspendable Layover = false
+suspendable Transfer = true
+suspendable Headway = true
+
 -- the state of a constraint that stands
 abbrev pub stands : State → Bool
 stands Standing = true

@@ -13,7 +13,7 @@ ghost use Rattle.std.specs.Results.{isOk};
 ghost use Rattle.std.specs.Vec.{made, refused};
 ghost use Rattle.weights.specs.DaysKind.{days-of};
 ghost use Rattle.timetable.specs.Changes.{state-after, with-time, moved, changed};
-ghost use Rattle.timetable.specs.Words.{letter-of, byte-of, is-live, counted, slack-of, link-of, free-days, row-at};
+ghost use Rattle.timetable.specs.Words.{letter-of, byte-of, suspendable, is-live, counted, slack-of, link-of, free-days, row-at};
 use runs::Link;
 use std::alloc::AllocError;
 use std::alloc::Global;
@@ -96,6 +96,18 @@ impl Letter {
             Letter::Layover => b'L',
             Letter::Transfer => b'T',
             Letter::Headway => b'H',
+        }
+    }
+
+    // Whether a constraint of the letter may be suspended.
+    pub fn is_suspendable(self) -> bool
+        ensures { λ r. ⌜ r ≡ suspendable self ⌝ }
+    {
+        match self {
+            Letter::Running => false,
+            Letter::Layover => false,
+            Letter::Transfer => true,
+            Letter::Headway => true,
         }
     }
 }
@@ -271,7 +283,6 @@ impl ConstraintTable {
         if number >= self.rows.len() {
             return false;
         }
-        let constraint = &mut self.rows[number];
-        constraint.change(event)
+        self.rows[number].change(event)
     }
 }

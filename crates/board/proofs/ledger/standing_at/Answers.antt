@@ -1,6 +1,6 @@
 use borrow.Author.Needs.{needs}
 use Rattle.timetable.proofs.Changed.{row-lent}
-use Rattle.board.proofs.ledger.standing_fault.Needs as need
+use Rattle.board.proofs.ledger.standing_at.Needs as need
 
 pub returns-in-Standing : need.returns-in-Standing
 returns-in-Standing c = search (needs, row-lent)
