@@ -1,4 +1,6 @@
 // The board: one periodic timetable under its invariant. The struct stands here, and what it does in the modules below.
+#![tactic(auto)]
+
 ghost use Rattle.std.specs.Prelude.{◌≡◌, ◌≤◌, true, false, vec_len, vec_capacity};
 ghost use Rattle.board.specs.Circuits.{NoFreeCircuit};
 ghost use Rattle.board.specs.Invariant.{opening_in_range, all_in_range, KeptHolds};

@@ -1,4 +1,6 @@
 // Worked cases of opening, adding to, changing and loading a board.
+#![tactic(auto)]
+
 #[cfg(test)]
 mod adding;
 #[cfg(test)]

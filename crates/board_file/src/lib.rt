@@ -1,5 +1,7 @@
 // The bytes of a board file: its fields, the records in them, and why a file is refused. Each layer's fault holds that of the
 // layer below whole.
+#![tactic(auto)]
+
 ghost use Rattle.std.specs.Prelude.{◌≡◌, ◌+◌, ◌*◌, ◌<◌, ◌≤◌, length};
 ghost use Rattle.board_file.specs.declared.RecordFault.TheVariants.{Frame as FrameCase};
 ghost use Rattle.board_file.specs.declared.LoadFault.TheVariants.{Record as RecordCase};

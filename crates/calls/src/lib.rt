@@ -1,4 +1,6 @@
 // Calls of a board and their replies, as values: what a planner asks for, and what comes back.
+#![tactic(auto)]
+
 ghost use Rattle.std.specs.Prelude.{◌≡◌, Some};
 ghost use Rattle.calls.specs.Replies.{call_report, accepted, reply_text};
 

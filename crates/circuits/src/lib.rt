@@ -1,4 +1,6 @@
 // Gaining circuits, potentials, and the circuit of the extreme ratio, of a small net of arcs with a gain and a cost each.
+#![tactic(auto)]
+
 ghost use Rattle.std.specs.Prelude.{◌≡◌, ◌≤◌, true, take};
 ghost use Rattle.runs.specs.Tables.{in_range, every};
 ghost use Rattle.circuits.specs.Arcs.{arc_in_range};

@@ -1,3 +1,5 @@
 // Worked cases of circuits.
+#![tactic(auto)]
+
 #[cfg(test)]
 mod cases;

@@ -1,4 +1,6 @@
 // Delays: recovery times between departures.
+#![tactic(auto)]
+
 ghost use Rattle.std.specs.Prelude.{◌≡◌};
 ghost use Rattle.delays.specs.Cells.{empty_cell, told};
 

@@ -1,4 +1,6 @@
 // What a refusal reports: its layer, its number and its place.
+#![tactic(auto)]
+
 ghost use Rattle.std.specs.Prelude.{Some};
 ghost use Rattle.faults.specs.Shown.{layer_name, report_text};
 

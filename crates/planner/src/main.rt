@@ -1,5 +1,7 @@
 // Reads a planner's script from standard input, performs its calls in one session, and prints the reply to each; then dismisses what is
 // still suspended, and prints that too.
+#![tactic(auto)]
+
 use calls::{Call, Reply};
 use planning::Session;
 use script::{Line, next_line, read_line};

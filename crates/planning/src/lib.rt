@@ -1,4 +1,6 @@
 // Planning: a session holds a board and exactly the tickets of its suspended constraints, and performs lists of calls.
+#![tactic(auto)]
+
 ghost use Rattle.std.specs.Prelude.{◌≡◌, vec_len};
 ghost use Rattle.board.specs.Holding.{ledger_of};
 ghost use Rattle.planning.specs.Tickets.{HoldsTickets};

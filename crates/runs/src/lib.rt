@@ -1,4 +1,6 @@
 // Links between events, and the table of what all short runs over weighted links come to, for every kind of weight.
+#![tactic(auto)]
+
 ghost use Rattle.std.specs.Prelude.{◌≡◌};
 ghost use Rattle.runs.specs.Faults.{table_report};
 

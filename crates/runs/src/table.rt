@@ -18,8 +18,8 @@ const MAX_LINKS: usize = 128;
 
 // The chaining of two weights whose spans leave room.
 fn chained<W: Weight>(a: W, b: W) -> W
-    requires { kind.span (meaning a) + kind.span (meaning b) ≤ 32 }
-    ensures { meaning result ≡ kind.chaining (meaning a) (meaning b) }
+    requires { W.kind.span (W.meaning a) + W.kind.span (W.meaning b) ≤ 32 }
+    ensures { W.meaning result ≡ W.kind.chaining (W.meaning a) (W.meaning b) }
 {
     match a.chain(b) {
         Some(w) => w,
@@ -29,7 +29,7 @@ fn chained<W: Weight>(a: W, b: W) -> W
 
 // Writes none everywhere.
 fn clear<W: Weight>(weights: &mut [W])
-    ensures { (t : ℕ) → at kind meaning weights.new t ≡ kind.none }
+    ensures { (t : ℕ) → at W.kind W.meaning weights.new t ≡ W.kind.none }
 {
     for w in weights.iter_mut() {
         *w = W::none();
@@ -38,7 +38,7 @@ fn clear<W: Weight>(weights: &mut [W])
 
 // What the empty run gives the cell (i, j).
 fn empty_run<W: Weight>(i: usize, j: usize) -> W
-    ensures { meaning result ≡ seed kind i j }
+    ensures { W.meaning result ≡ seed W.kind i j }
 {
     if i == j { W::start() } else { W::none() }
 }
@@ -48,8 +48,8 @@ fn seed_column<W: Weight>(n: usize, j: usize, cells: &mut [W])
     requires few { n ≤ 32 }
     requires inside { j < n }
     requires square { length cells.old ≡ n * n }
-    ensures column { (i : ℕ) → i < n → column_of kind meaning n j cells.new i ≡ seed kind i j }
-    ensures others { OthersKept kind meaning n j cells.old cells.new }
+    ensures column { (i : ℕ) → i < n → column_of W.kind W.meaning n j cells.new i ≡ seed W.kind i j }
+    ensures others { OthersKept W.kind W.meaning n j cells.old cells.new }
 {
     for i in 0..n {
         cells[i * n + j] = empty_run(i, j);
@@ -70,10 +70,10 @@ fn extend_column<W: Weight>(
     requires inside { j < n }
     requires square { length cells.old ≡ n * n }
     requires side { length behind.now ≡ n }
-    requires fit { Fit kind meaning n links.now weights.now }
-    requires room { All (λ w. kind.span (meaning w) ≤ 31) behind.now }
-    ensures column { (i : ℕ) → i < n → column_of kind meaning n j cells.new i ≡ kind.choice (column_of kind meaning n j cells.old i) (extend kind (net_of links.now) (at kind meaning weights.now) (at kind meaning behind.now) i (net_of links.now).links) }
-    ensures others { OthersKept kind meaning n j cells.old cells.new }
+    requires fit { Fit W.kind W.meaning n links.now weights.now }
+    requires room { All (λ w. W.kind.span (W.meaning w) ≤ 31) behind.now }
+    ensures column { (i : ℕ) → i < n → column_of W.kind W.meaning n j cells.new i ≡ W.kind.choice (column_of W.kind W.meaning n j cells.old i) (extend W.kind (net_of links.now) (at W.kind W.meaning weights.now) (at W.kind W.meaning behind.now) i (net_of links.now).links) }
+    ensures others { OthersKept W.kind W.meaning n j cells.old cells.new }
 {
     for (l, link) in links.iter().enumerate() {
         let place = link.from as usize * n + j;
@@ -87,7 +87,7 @@ fn is_settled<W: Weight>(n: usize, j: usize, cells: &[W], behind: &[W]) -> bool
     requires inside { j < n }
     requires square { length cells.now ≡ n * n }
     requires side { length behind.now ≡ n }
-    ensures { Decides result ((i : ℕ) → i < n → column_of kind meaning n j cells.now i ≡ at kind meaning behind.now i) }
+    ensures { Decides result ((i : ℕ) → i < n → column_of W.kind W.meaning n j cells.now i ≡ at W.kind W.meaning behind.now i) }
 {
     for (i, old) in behind.iter().enumerate() {
         if !cells[i * n + j].same(*old) {
@@ -103,7 +103,7 @@ fn copy_column<W: Weight>(n: usize, j: usize, cells: &[W], behind: &mut [W])
     requires inside { j < n }
     requires square { length cells.now ≡ n * n }
     requires side { length behind.old ≡ n }
-    ensures { (i : ℕ) → i < n → at kind meaning behind.new i ≡ column_of kind meaning n j cells.now i }
+    ensures { (i : ℕ) → i < n → at W.kind W.meaning behind.new i ≡ column_of W.kind W.meaning n j cells.now i }
 {
     for i in 0..n {
         behind[i] = cells[i * n + j];
@@ -127,10 +127,10 @@ fn fill_column<W: Weight>(
     requires inside { j < n }
     requires square { length cells.old ≡ n * n }
     requires side { length copy.old ≡ n }
-    requires fit { Fit kind meaning n links.now weights.now }
-    ensures column { (i : ℕ) → i < n → column_of kind meaning n j cells.new i ≡ cell kind (net_of links.now) (at kind meaning weights.now) rounds i j }
-    ensures copy { (i : ℕ) → i < n → at kind meaning copy.new i ≡ cell kind (net_of links.now) (at kind meaning weights.now) rounds i j }
-    ensures others { OthersKept kind meaning n j cells.old cells.new }
+    requires fit { Fit W.kind W.meaning n links.now weights.now }
+    ensures column { (i : ℕ) → i < n → column_of W.kind W.meaning n j cells.new i ≡ cell W.kind (net_of links.now) (at W.kind W.meaning weights.now) rounds i j }
+    ensures copy { (i : ℕ) → i < n → at W.kind W.meaning copy.new i ≡ cell W.kind (net_of links.now) (at W.kind W.meaning weights.now) rounds i j }
+    ensures others { OthersKept W.kind W.meaning n j cells.old cells.new }
 {
     clear(copy);
     for round in 0..rounds {
@@ -145,9 +145,9 @@ fn fill_column<W: Weight>(
 
 // The choice over the links from `j`, each chained with what stands for its second event.
 fn closed_choice<W: Weight>(j: usize, links: &[Link], weights: &[W], behind: &[W]) -> W
-    requires fit { Fit kind meaning (length behind.now) links.now weights.now }
-    requires room { All (λ w. kind.span (meaning w) ≤ 31) behind.now }
-    ensures { meaning result ≡ extend kind (net_of links.now) (at kind meaning weights.now) (at kind meaning behind.now) j (net_of links.now).links }
+    requires fit { Fit W.kind W.meaning (length behind.now) links.now weights.now }
+    requires room { All (λ w. W.kind.span (W.meaning w) ≤ 31) behind.now }
+    ensures { W.meaning result ≡ extend W.kind (net_of links.now) (at W.kind W.meaning weights.now) (at W.kind W.meaning behind.now) j (net_of links.now).links }
 {
     let mut best = W::none();
     for (l, link) in links.iter().enumerate() {
@@ -160,7 +160,7 @@ fn closed_choice<W: Weight>(j: usize, links: &[Link], weights: &[W], behind: &[W
 
 // Whether a weight gains.
 fn does_gain<W: Weight>(w: W) -> bool
-    ensures { result ≡ gains kind (meaning w) }
+    ensures { result ≡ gains W.kind (W.meaning w) }
 {
     !w.choose(W::start()).same(W::start())
 }
@@ -175,9 +175,9 @@ fn closed_run_gains<W: Weight>(
 ) -> bool
     requires few { n ≤ 32 }
     requires side { length column.now ≡ n }
-    requires fit { Fit kind meaning n links.now weights.now }
-    requires cells { (i : ℕ) → i < n → at kind meaning column.now i ≡ cell kind (net_of links.now) (at kind meaning weights.now) n i j }
-    ensures { result ≡ some_gains kind (at kind meaning weights.now) (closed_runs (net_of links.now) n j) }
+    requires fit { Fit W.kind W.meaning n links.now weights.now }
+    requires cells { (i : ℕ) → i < n → at W.kind W.meaning column.now i ≡ cell W.kind (net_of links.now) (at W.kind W.meaning weights.now) n i j }
+    ensures { result ≡ some_gains W.kind (at W.kind W.meaning weights.now) (closed_runs (net_of links.now) n j) }
 {
     does_gain(closed_choice(j, links, weights, column))
 }
@@ -193,9 +193,9 @@ fn fill_columns<W: Weight>(
     requires few { n ≤ 32 }
     requires square { length cells.old ≡ n * n }
     requires side { length spare.old ≡ n }
-    requires fit { Fit kind meaning n links.now weights.now }
-    ensures gain { result ≡ gaining_event kind (net_of links.now) (at kind meaning weights.now) n }
-    ensures cells { result ≡ None → (i j : ℕ) → i < n → j < n → at kind meaning cells.new (i * n + j) ≡ cell kind (net_of links.now) (at kind meaning weights.now) n i j }
+    requires fit { Fit W.kind W.meaning n links.now weights.now }
+    ensures gain { result ≡ gaining_event W.kind (net_of links.now) (at W.kind W.meaning weights.now) n }
+    ensures cells { result ≡ None → (i j : ℕ) → i < n → j < n → at W.kind W.meaning cells.new (i * n + j) ≡ cell W.kind (net_of links.now) (at W.kind W.meaning weights.now) n i j }
 {
     for j in 0..n {
         fill_column(n, n, j, links, weights, cells, spare);
@@ -217,8 +217,8 @@ fn fill_table<W: Weight>(
     requires few { n ≤ 32 }
     requires square { length cells.old ≡ n * n }
     requires side { length spare.old ≡ n }
-    requires fit { Fit kind meaning n links.now weights.now }
-    ensures { Tabled kind meaning n links.now weights.now cells.old spare.old (gain_fault (gaining_event kind (net_of links.now) (at kind meaning weights.now) n)) cells.new spare.new result }
+    requires fit { Fit W.kind W.meaning n links.now weights.now }
+    ensures { Tabled W.kind W.meaning n links.now weights.now cells.old spare.old (gain_fault (gaining_event W.kind (net_of links.now) (at W.kind W.meaning weights.now) n)) cells.new spare.new result }
 {
     let gain = fill_columns(n, links, weights, cells, spare);
     clear(spare);
@@ -252,14 +252,14 @@ fn events_below(n: usize, links: &[Link]) -> bool
 
 // Whether a weight spans at most 1.
 fn is_light<W: Weight>(w: W) -> bool
-    ensures { result ≡ nat_le (kind.span (meaning w)) 1 }
+    ensures { result ≡ nat_le (W.kind.span (W.meaning w)) 1 }
 {
     w.span() <= 1
 }
 
 // Whether every weight spans at most 1.
 fn spans_at_most_one<W: Weight>(weights: &[W]) -> bool
-    ensures { result ≡ spans_at_most_one kind meaning weights.now }
+    ensures { result ≡ spans_at_most_one W.kind W.meaning weights.now }
 {
     for w in weights {
         if !is_light(*w) {
@@ -277,7 +277,7 @@ fn checked_table<W: Weight>(
     cells: &mut [W],
     spare: &mut [W],
 ) -> Result<(), TableFault>
-    ensures { Tabled kind meaning n links.now weights.now cells.old spare.old (table_fault kind meaning n links.now weights.now cells.old spare.old) cells.new spare.new result }
+    ensures { Tabled W.kind W.meaning n links.now weights.now cells.old spare.old (table_fault W.kind W.meaning n links.now weights.now cells.old spare.old) cells.new spare.new result }
 {
     if n < 1 || n > MAX_EVENTS {
         return Err(TableFault::EventCount);
@@ -307,8 +307,8 @@ pub fn table_of_runs<W: Weight>(
     cells: &mut [W],
     spare: &mut [W],
 ) -> Result<(), TableFault>
-    ensures table { Tabled kind meaning n links.now weights.now cells.old spare.old (table_fault kind meaning n links.now weights.now cells.old spare.old) cells.new spare.new result }
-    ensures law { TableLaw kind meaning n links.now weights.now cells.old spare.old cells.new result }
+    ensures table { Tabled W.kind W.meaning n links.now weights.now cells.old spare.old (table_fault W.kind W.meaning n links.now weights.now cells.old spare.old) cells.new spare.new result }
+    ensures law { TableLaw W.kind W.meaning n links.now weights.now cells.old spare.old cells.new result }
 {
     checked_table(n, links, weights, cells, spare)
 }

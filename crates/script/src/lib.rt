@@ -1,4 +1,6 @@
 // The planner's script: its lines, and which call each of them makes.
+#![tactic(auto)]
+
 ghost use Rattle.std.specs.Prelude.{◌≡◌, ◌<◌, length, IfSome, IfOk};
 ghost use Rattle.std.specs.List.{prefix_len};
 ghost use Rattle.script.specs.Lines.{in_line, lines, lines_cut, LinesLaw, is_comment, line_of, reading_of};

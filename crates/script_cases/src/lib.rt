@@ -1,5 +1,7 @@
 // Worked cases of the planner's script: each form of a line, numbers at and above their bounds, silent and unknown lines, and the lines of
 // a script.
+#![tactic(auto)]
+
 #[cfg(test)]
 mod forms;
 #[cfg(test)]

@@ -1,4 +1,6 @@
 // Reads a board file from standard input and reports on its board, or says why the file is refused.
+#![tactic(auto)]
+
 ghost use Rattle.std.specs.Prelude.{◌≤◌, length, IfOk};
 
 use board::{Board, load_report};

@@ -1,5 +1,7 @@
 // Constraints between departures: what an addition hands in, a constraint with its letter and state, the table of constraints,
 // what counts on a day, and slack.
+#![tactic(auto)]
+
 ghost use Rattle.std.specs.Prelude.{◌≡◌, ◌+◌, ◌*◌, ◌^◌, ◌<◌, ◌≤◌, false, ◌&&◌, [], ◌∷◌, ◌++◌, pos, is_some, is_ok, IfOk, IfErr, if◌then◌else◌, vec_len, vec_capacity, ◌==◌, int_lt, nat_lt};
 ghost use Rattle.weights.specs.DaysKind.{days_of};
 ghost use Rattle.timetable.specs.Changes.{state_after, changes_counted, with_time, moved, changed};

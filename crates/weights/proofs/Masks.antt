@@ -17,11 +17,11 @@ low_min u x y p q = omega arith
 below_two : (n : ℕ) → n % 2 < 2
 below_two n = omega arith
 
-bit_or : (a b k : ℕ) → bit_or a b / 2 ^ k % 2 ≡ max (a / 2 ^ k % 2) (b / 2 ^ k % 2)
-bit_or a b k = ap (λ n. n % 2) (or_shr a b k ∙ or_step (a / 2 ^ k) (b / 2 ^ k)) ∙ low_max _ _ _ (below_two _) (below_two _)
+bit_of_or : (a b k : ℕ) → bit_or a b / 2 ^ k % 2 ≡ max (a / 2 ^ k % 2) (b / 2 ^ k % 2)
+bit_of_or a b k = ap (λ n. n % 2) (or_shr a b k ∙ or_step (a / 2 ^ k) (b / 2 ^ k)) ∙ low_max _ _ _ (below_two _) (below_two _)
 
-bit_and : (a b k : ℕ) → bit_and a b / 2 ^ k % 2 ≡ min (a / 2 ^ k % 2) (b / 2 ^ k % 2)
-bit_and a b k = ap (λ n. n % 2) (and_shr a b k ∙ and_step (a / 2 ^ k) (b / 2 ^ k)) ∙ low_min _ _ _ (below_two _) (below_two _)
+bit_of_and : (a b k : ℕ) → bit_and a b / 2 ^ k % 2 ≡ min (a / 2 ^ k % 2) (b / 2 ^ k % 2)
+bit_of_and a b k = ap (λ n. n % 2) (and_shr a b k ∙ and_step (a / 2 ^ k) (b / 2 ^ k)) ∙ low_min _ _ _ (below_two _) (below_two _)
 
 eqb_max : (x y : ℕ) → x < 2 → y < 2 → eqb (max x y) 1 ≡ (eqb x 1 || eqb y 1)
 eqb_max x y p q = grind (arith, nat_tests)
@@ -30,10 +30,10 @@ eqb_min : (x y : ℕ) → x < 2 → y < 2 → eqb (min x y) 1 ≡ (eqb x 1 && eq
 eqb_min x y p q = grind (arith, nat_tests)
 
 pub days_or : (a b : ℕ) → days_of (bit_or a b) ≡ days_kind.choice (days_of a) (days_of b)
-days_or a b = fun_ext (λ d. ap (λ n. eqb n 1) (bit_or a b (bit_of d)) ∙ eqb_max _ _ (below_two _) (below_two _))
+days_or a b = fun_ext (λ d. ap (λ n. eqb n 1) (bit_of_or a b (bit_of d)) ∙ eqb_max _ _ (below_two _) (below_two _))
 
 pub days_and : (a b : ℕ) → days_of (bit_and a b) ≡ days_kind.chaining (days_of a) (days_of b)
-days_and a b = fun_ext (λ d. ap (λ n. eqb n 1) (bit_and a b (bit_of d)) ∙ eqb_min _ _ (below_two _) (below_two _))
+days_and a b = fun_ext (λ d. ap (λ n. eqb n 1) (bit_of_and a b (bit_of d)) ∙ eqb_min _ _ (below_two _) (below_two _))
 
 bit_same : (x y : ℕ) → x < 2 → y < 2 → eqb x 1 ≡ eqb y 1 → x ≡ y
 bit_same x y p q e = grind (arith, nat_tests)

@@ -1,4 +1,6 @@
 // What a kind of weight is, by an interface, and two kinds: sets of weekdays, and seconds.
+#![tactic(auto)]
+
 ghost use Rattle.std.specs.Prelude.{◌≡◌};
 ghost use Rattle.weights.specs.Kinds.{Kind, Laws, Idempotent, Chained};
 

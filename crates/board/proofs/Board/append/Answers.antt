@@ -35,8 +35,8 @@ returns-then-closes-circuit c =
     let refused = circuit_refused (ledger_of board) (held_by board) a held early (sym same ∙ sym c.if-closes-circuit.ensures) in
     record { reply = refused.0; number = tt; after = refused.1; kept = search rules }
 
-pub invariant-of-self : goal.invariant-of-self
-invariant-of-self c =
+pub invariant_of-self : goal.invariant_of-self
+invariant_of-self c =
     let board = c.args.self.now in
     let a = c.args.addition in
     let rows = vec_items board.table.rows in

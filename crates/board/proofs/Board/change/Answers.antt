@@ -6,8 +6,8 @@ use Rattle.board.proofs.Changes.{length_changed, range_moved, sound_moved}
 use Rattle.board.proofs.Kept.{held_moved}
 use Rattle.board.proofs.Board.change.Goals as goal
 
-pub invariant-of-self : goal.invariant-of-self
-invariant-of-self c =
+pub invariant_of-self : goal.invariant_of-self
+invariant_of-self c =
     let board = c.args.self.now in
     let rows = vec_items board.table.rows in
     let event = c.args.event in

@@ -12,8 +12,8 @@ keep-departures-requires c =
     let few = opening_few c.args.events c.args.period c.args.departures.now (sym c.in-default.ensures) in
     record { empty = search rules; room = omega (arith, few, c.args.self.now.room.0) }
 
-pub invariant-of-self : goal.invariant-of-self
-invariant-of-self c =
+pub invariant_of-self : goal.invariant_of-self
+invariant_of-self c =
     let empty : vec_items c.args.self.now.table.rows ≡ [] = search (rules, nil_from_length) in
     let ok = opening_ok c.args.events c.args.period c.args.departures.now (sym c.in-default.ensures) in (
       search rules,

@@ -5,8 +5,8 @@ use Rattle.board.specs.Invariant.{all_in_range}
 use Rattle.board.proofs.Changes.{length_changed, range_retimed, sound_retimed}
 use Rattle.board.proofs.Board.retime.Goals as goal
 
-pub invariant-of-self : goal.invariant-of-self
-invariant-of-self c =
+pub invariant_of-self : goal.invariant_of-self
+invariant_of-self c =
     let board = c.args.self.now in
     let rows = vec_items board.table.rows in
     let time = c.args.time in

@@ -6,8 +6,8 @@ use Rattle.circuits.specs.Arcs.{arc_in_range}
 use Rattle.circuits.proofs.Nets.{every_push}
 use Rattle.circuits.proofs.ArcNet.push.Goals as goal
 
-pub invariant-of-self : goal.invariant-of-self
-invariant-of-self c =
+pub invariant_of-self : goal.invariant_of-self
+invariant_of-self c =
     let net = c.args.self.now in
     let long : length net.arcs ≡ 128 = search rules in
     let room : net.count < length net.arcs = omega (arith, c.if-self-ge128.false) in

@@ -9,8 +9,8 @@ use Rattle.planning.proofs.Places.{taken_place}
 use Rattle.planning.proofs.Held.{held_own, own_accepted, own_after, unheld_refused, refused_after, refused_new, spent_either}
 use Rattle.planning.proofs.Session.spend.Goals as goal
 
-pub invariant-of-self-in-Some : goal.invariant-of-self-in-Some
-invariant-of-self-in-Some c =
+pub invariant_of-self-in-Some : goal.invariant_of-self-in-Some
+invariant_of-self-in-Some c =
     let s = c.args.self.now in
     let places = places_of s.tickets in
     let k = c.from.result in

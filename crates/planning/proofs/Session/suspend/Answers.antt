@@ -17,8 +17,8 @@ put-requires c =
       empty = ap (λ k. get_or places k None) c.from.ensures ∙ empty.1;
     }
 
-pub invariant-of-self : goal.invariant-of-self
-invariant-of-self c =
+pub invariant_of-self : goal.invariant_of-self
+invariant_of-self c =
     let s = c.args.self.now in
     let places = places_of s.tickets in
     let few = few_rows s.board.opened (held_by s.board) (omega (arith, s.board.few, s.board.table.rows.ok.0)) in

@@ -10,8 +10,8 @@ use Rattle.runs.proofs.table.closed_choice.Goals.{then-link-j, else-link-j}
 pub bounds-behind-link : goal.bounds-behind-link
 bounds-behind-link g c = link_end (length c.args.behind.now) c.loop-l.l (length c.args.behind.now) c.args.links.now refl c.loop-l-test.true c.requires.fit.within
 
-pub offset-bounds-behind-link : goal.offset-bounds-behind-link
-offset-bounds-behind-link g c = let inside : (get_or c.args.links.now c.loop-l.l no_link).to < length c.args.behind.now = bounds-behind-link g c in omega arith
+pub offset_bounds-behind-link : goal.offset_bounds-behind-link
+offset_bounds-behind-link g c = let inside : (get_or c.args.links.now c.loop-l.l no_link).to < length c.args.behind.now = bounds-behind-link g c in omega arith
 
 pub chained-requires : goal.chained-requires
 chained-requires g c = chain_room g.W.Weight.kind g.W.Weight.meaning (length c.args.behind.now) c.loop-l.l c.args.links.now c.args.weights.now c.args.behind.now c.index-weights-l.result c.index-behind-link.result c.requires.fit refl c.requires.room c.loop-l-test.true c.index-weights-l.is c.index-behind-link.is

@@ -7,8 +7,8 @@ use Rattle.runs.proofs.Extending.{net_within, column_room}
 use Rattle.runs.proofs.Theorem.{gains_over}
 use Rattle.runs.proofs.table.closed_run_gains.Goals as goal
 
-pub closed-choice-requires : goal.closed-choice-requires
-closed-choice-requires g c =
+pub closed_choice-requires : goal.closed_choice-requires
+closed_choice-requires g c =
     let K = g.W.Weight.kind in
     let m = g.W.Weight.meaning in
     record {
@@ -24,6 +24,6 @@ returns g c =
     let net = net_of c.args.links.now in
     let w = at K m c.args.weights.now in
     let b = net_within c.args.n c.args.links.now c.requires.fit.within in
-    c.does-gain.ensures
-    ∙ gains_over K L g.met.W.Weight.idempotent net w (closed_runs net c.args.n c.args.j) (m c.closed-choice.result)
-    (c.closed-choice.ensures ∙ round_closed K L net w c.args.n b c.args.n c.args.j (at K m c.args.column.now) c.requires.cells)
+    c.does_gain.ensures
+    ∙ gains_over K L g.met.W.Weight.idempotent net w (closed_runs net c.args.n c.args.j) (m c.closed_choice.result)
+    (c.closed_choice.ensures ∙ round_closed K L net w c.args.n b c.args.n c.args.j (at K m c.args.column.now) c.requires.cells)

@@ -6,8 +6,8 @@ use Rattle.runs.proofs.table.copy_column.Goals as goal
 pub bounds-cells-i : goal.bounds-cells-i
 bounds-cells-i g c = let h = cell_inside c.args.n c.loop-i.i c.args.j c.loop-i-test.true c.requires.inside in omega (arith, c.requires.square)
 
-pub offset-bounds-cells-i : goal.offset-bounds-cells-i
-offset-bounds-cells-i g c = let h = cell_inside c.args.n c.loop-i.i c.args.j c.loop-i-test.true c.requires.inside in omega (arith, c.requires.square)
+pub offset_bounds-cells-i : goal.offset_bounds-cells-i
+offset_bounds-cells-i g c = let h = cell_inside c.args.n c.loop-i.i c.args.j c.loop-i-test.true c.requires.inside in omega (arith, c.requires.square)
 
 pub loop-i-preserved : goal.loop-i-preserved
 loop-i-preserved g c =

@@ -8,14 +8,14 @@ use Rattle.runs.proofs.table.extend_column.Goals as goal
 pub bounds-cells-place : goal.bounds-cells-place
 bounds-cells-place g c = link_place c.args.n c.args.j c.loop-l.l (length c.loop-l.cells) c.args.links.now c.requires.inside (c.loop-l.auto.cells ∙ c.requires.square) c.loop-l-test.true c.requires.fit.within
 
-pub offset-bounds-cells-place : goal.offset-bounds-cells-place
-offset-bounds-cells-place g c = let inside : (get_or c.args.links.now c.loop-l.l no_link).from * c.args.n + c.args.j < length c.loop-l.cells = bounds-cells-place g c in search rules
+pub offset_bounds-cells-place : goal.offset_bounds-cells-place
+offset_bounds-cells-place g c = let inside : (get_or c.args.links.now c.loop-l.l no_link).from * c.args.n + c.args.j < length c.loop-l.cells = bounds-cells-place g c in search rules
 
 pub bounds-behind-link : goal.bounds-behind-link
 bounds-behind-link g c = link_end c.args.n c.loop-l.l (length c.args.behind.now) c.args.links.now c.requires.side c.loop-l-test.true c.requires.fit.within
 
-pub offset-bounds-behind-link : goal.offset-bounds-behind-link
-offset-bounds-behind-link g c = let inside : (get_or c.args.links.now c.loop-l.l no_link).to < length c.args.behind.now = bounds-behind-link g c in omega arith
+pub offset_bounds-behind-link : goal.offset_bounds-behind-link
+offset_bounds-behind-link g c = let inside : (get_or c.args.links.now c.loop-l.l no_link).to < length c.args.behind.now = bounds-behind-link g c in omega arith
 
 pub chained-requires : goal.chained-requires
 chained-requires g c = chain_room g.W.Weight.kind g.W.Weight.meaning c.args.n c.loop-l.l c.args.links.now c.args.weights.now c.args.behind.now c.index-weights-l.result c.index-behind-link.result c.requires.fit c.requires.side c.requires.room c.loop-l-test.true c.index-weights-l.is c.index-behind-link.is
@@ -23,8 +23,8 @@ chained-requires g c = chain_room g.W.Weight.kind g.W.Weight.meaning c.args.n c.
 pub bounds-cells-place-in-loop-l : goal.bounds-cells-place-in-loop-l
 bounds-cells-place-in-loop-l g c = link_place c.args.n c.args.j c.loop-l.l (length c.loop-l.cells) c.args.links.now c.requires.inside (c.loop-l.auto.cells ∙ c.requires.square) c.loop-l-test.true c.requires.fit.within
 
-pub offset-bounds-cells-place-in-loop-l : goal.offset-bounds-cells-place-in-loop-l
-offset-bounds-cells-place-in-loop-l g c = let inside : (get_or c.args.links.now c.loop-l.l no_link).from * c.args.n + c.args.j < length c.loop-l.cells = bounds-cells-place-in-loop-l g c in search rules
+pub offset_bounds-cells-place-in-loop-l : goal.offset_bounds-cells-place-in-loop-l
+offset_bounds-cells-place-in-loop-l g c = let inside : (get_or c.args.links.now c.loop-l.l no_link).from * c.args.n + c.args.j < length c.loop-l.cells = bounds-cells-place-in-loop-l g c in search rules
 
 pub loop-l-preserved : goal.loop-l-preserved
 loop-l-preserved g c =

@@ -15,16 +15,16 @@ loop-j-preserved g c =
     let m = g.W.Weight.meaning in
     let net = net_of c.args.links.now in
     let w = at K m c.args.weights.now in (
-      columns_more K m c.args.n c.loop-j.j c.loop-j-test.true c.loop-j.cells c.fill-column.new.cells (cell K net w c.args.n) (λ i h. search rules) c.fill-column.ensures.others c.loop-j.invariant.0,
-      lowest_passed (λ j. some_gains K w (closed_runs net c.args.n j)) c.loop-j.j c.loop-j.invariant.1 (sym c.closed-run-gains.ensures ∙ c.if-closed-run-gains.false),
+      columns_more K m c.args.n c.loop-j.j c.loop-j-test.true c.loop-j.cells c.fill_column.new.cells (cell K net w c.args.n) (λ i h. search rules) c.fill_column.ensures.others c.loop-j.invariant.0,
+      lowest_passed (λ j. some_gains K w (closed_runs net c.args.n j)) c.loop-j.j c.loop-j.invariant.1 (sym c.closed_run_gains.ensures ∙ c.if-closed_run_gains.false),
     )
 
-pub returns-then-closed-run-gains : goal.returns-then-closed-run-gains
-returns-then-closed-run-gains g c =
+pub returns-then-closed_run_gains : goal.returns-then-closed_run_gains
+returns-then-closed_run_gains g c =
     let K = g.W.Weight.kind in
     let w = at K g.W.Weight.meaning c.args.weights.now in
     record {
-      gain = sym (lowest_found (λ j. some_gains K w (closed_runs (net_of c.args.links.now) c.args.n j)) c.loop-j.j c.args.n c.loop-j-test.true c.loop-j.invariant.1 (sym c.closed-run-gains.ensures ∙ c.if-closed-run-gains.true));
+      gain = sym (lowest_found (λ j. some_gains K w (closed_runs (net_of c.args.links.now) c.args.n j)) c.loop-j.j c.args.n c.loop-j-test.true c.loop-j.invariant.1 (sym c.closed_run_gains.ensures ∙ c.if-closed_run_gains.true));
       cells = λ none. absurd (some_not_none none);
     }
 

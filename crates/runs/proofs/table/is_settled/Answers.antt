@@ -7,8 +7,8 @@ use Rattle.runs.proofs.table.is_settled.Goals as goal
 pub bounds-cells-i : goal.bounds-cells-i
 bounds-cells-i g c = let h = cell_inside c.args.n c.loop-i.i c.args.j (omega (arith, c.loop-i-test.true, c.requires.side)) c.requires.inside in omega (arith, c.requires.square)
 
-pub offset-bounds-cells-i : goal.offset-bounds-cells-i
-offset-bounds-cells-i g c = let inside : c.loop-i.i * c.args.n + c.args.j < length c.args.cells.now = bounds-cells-i g c in omega arith
+pub offset_bounds-cells-i : goal.offset_bounds-cells-i
+offset_bounds-cells-i g c = let inside : c.loop-i.i * c.args.n + c.args.j < length c.args.cells.now = bounds-cells-i g c in omega arith
 
 pub returns-then-not-same : goal.returns-then-not-same
 returns-then-not-same g c =
