@@ -1,8 +1,8 @@
 use Rattle.std.proofs.Common.{◌*◌, ◌≤◌, mul-le-mul, rules}
 use Rattle.timetable.proofs.later_by.Goals as goal
 
-pub overflow-add-result : goal.overflow-add-result
-overflow-add-result c =
+pub overflow_add-result : goal.overflow_add-result
+overflow_add-result c =
     let few : c.from-2.result ≤ 255 = search rules in
     let short : c.from-3.result ≤ 4294967295 = search rules in
     let h : c.from-2.result * c.from-3.result ≤ 255 * 4294967295 = mul-le-mul few short in

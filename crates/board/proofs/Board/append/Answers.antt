@@ -9,30 +9,30 @@ use Rattle.board.proofs.Openings.{opening_events}
 use Rattle.board.proofs.Additions.{passed, passed_in_range, range_more, sound_more, circuit_refused}
 use Rattle.board.proofs.Board.append.Goals as goal
 
-pub closes-circuit-requires : goal.closes-circuit-requires
-closes-circuit-requires c =
+pub closes_circuit-requires : goal.closes_circuit-requires
+closes_circuit-requires c =
     let board = c.args.self.now in
-    let p = passed board.events c.len-count.result c.args.addition (sym c.in-default.ensures) in
+    let p = passed board.events c.len-count.result c.args.addition (sym c.in_default.ensures) in
     let same = sym c.from-events.ensures in
     let range = opening_events board.events board.period (vec_items board.departures) (board.opening c.if-not-self.false) in
     record {
       range = subst (λ n. in_range n ≡ true) same range;
-      rows = subst (λ n. all_in_range n c.as-slice.result.now ≡ true) same (subst (λ rows. all_in_range board.events rows ≡ true) (sym c.as-slice.ensures.value) board.ranges);
-      few = omega (arith, c.as-slice.ensures.len, board.few);
+      rows = subst (λ n. all_in_range n c.as_slice.result.now ≡ true) same (subst (λ rows. all_in_range board.events rows ≡ true) (sym c.as_slice.ensures.value) board.ranges);
+      few = omega (arith, c.as_slice.ensures.len, board.few);
       from = omega (arith, p.from, c.from-events.ensures);
       to = omega (arith, p.to, c.from-events.ensures);
       days = omega (arith, p.days);
     }
 
-pub returns-then-closes-circuit : goal.returns-then-closes-circuit
-returns-then-closes-circuit c =
+pub returns-then-closes_circuit : goal.returns-then-closes_circuit
+returns-then-closes_circuit c =
     let board = c.args.self.now in
     let a = c.args.addition in
     let count : c.len-count.result ≡ length (vec_items board.table.rows) = search rules in
-    let early = subst (λ n. early_add_fault board.events n a None ≡ None) count (sym c.in-default.ensures) in
+    let early = subst (λ n. early_add_fault board.events n a None ≡ None) count (sym c.in_default.ensures) in
     let held = ap (λ opened. cond opened (holding (held_by board)) nothing) c.if-not-self.false in
-    let same = ap (λ n. closes_circuit n c.as-slice.result.now a) c.from-events.ensures ∙ ap (λ rows. closes_circuit board.events rows a) c.as-slice.ensures.value in
-    let refused = circuit_refused (ledger_of board) (held_by board) a held early (sym same ∙ sym c.if-closes-circuit.ensures) in
+    let same = ap (λ n. closes_circuit n c.as_slice.result.now a) c.from-events.ensures ∙ ap (λ rows. closes_circuit board.events rows a) c.as_slice.ensures.value in
+    let refused = circuit_refused (ledger_of board) (held_by board) a held early (sym same ∙ sym c.if-closes_circuit.ensures) in
     record { reply = refused.0; number = tt; after = refused.1; kept = search rules }
 
 pub invariant_of-self : goal.invariant_of-self
@@ -40,9 +40,9 @@ invariant_of-self c =
     let board = c.args.self.now in
     let a = c.args.addition in
     let rows = vec_items board.table.rows in
-    let p = passed board.events c.len-count.result a (sym c.in-default.ensures) in
+    let p = passed board.events c.len-count.result a (sym c.in_default.ensures) in
     let grown : rows ++ constraint_of a ∷ [] ≡ vec_items c.push.new.self.rows = sym (c.in-Ok.ensures.rows ∙ ap (λ x. rows ++ x ∷ []) c.standing.ensures) in
-    let same = ap (λ n. closes_circuit n c.as-slice.result.now a) c.from-events.ensures ∙ ap (λ x. closes_circuit board.events x a) c.as-slice.ensures.value in
+    let same = ap (λ n. closes_circuit n c.as_slice.result.now a) c.from-events.ensures ∙ ap (λ x. closes_circuit board.events x a) c.as_slice.ensures.value in
     let few : vec_len c.push.new.self.rows ≤ 128 = omega (arith, p.room, c.len-count.ensures, board.table.rows.ok.0, c.push.new.self.rows.ok.0, ap length grown, length-append rows (constraint_of a ∷ [])) in (
       search rules,
       (
@@ -51,7 +51,7 @@ invariant_of-self c =
           search rules,
           (
             subst (λ x. all_in_range board.events x ≡ true) grown (range_more board.events rows (constraint_of a) board.ranges (passed_in_range board.events c.len-count.result a p)),
-            (subst NoFreeCircuit grown (sound_more board.events rows a board.ranges p.from (sym same ∙ sym c.if-closes-circuit.ensures) board.sound), (search rules, (search rules, tt))),
+            (subst NoFreeCircuit grown (sound_more board.events rows a board.ranges p.from (sym same ∙ sym c.if-closes_circuit.ensures) board.sound), (search rules, (search rules, tt))),
           ),
         ),
       ),

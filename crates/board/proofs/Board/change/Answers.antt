@@ -25,7 +25,7 @@ invariant_of-self c =
             (
               subst NoFreeCircuit after (sound_moved event rows k board.sound),
               (
-                subst (λ x. KeptHolds c.stays-current-self.result board.day (vec_items board.departures) board.period x (vec_items board.kept)) after (held_moved event board.current c.stays-current-self.result board.day (vec_items board.departures) board.period rows k (vec_items board.kept) c.stays-current-self.ensures board.held),
+                subst (λ x. KeptHolds c.stays_current-self.result board.day (vec_items board.departures) board.period x (vec_items board.kept)) after (held_moved event board.current c.stays_current-self.result board.day (vec_items board.departures) board.period rows k (vec_items board.kept) c.stays_current-self.ensures board.held),
                 (search rules, tt),
               ),
             ),

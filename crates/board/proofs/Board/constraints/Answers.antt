@@ -7,5 +7,5 @@ use Rattle.board.proofs.Board.constraints.Goals as goal
 pub returns : goal.returns
 returns c =
     let board = c.args.self.now in
-    subst (LendsRows (ledger_of board)) (sym c.as-slice.ensures.value)
+    subst (LendsRows (ledger_of board)) (sym c.as_slice.ensures.value)
     (lends board.opened (held_by board) (omega (arith, board.few, board.table.rows.ok.0)) board.opening board.ranges board.sound (λ e. omega (arith, (board.blank e).0, board.table.rows.ok.0)))

@@ -6,7 +6,7 @@ use Rattle.board.proofs.Board.load.Goals as goal
 pub returns : goal.returns
 returns c =
     let board = c.args.self.now in
-    let done = c.load-or-forget.ensures in
+    let done = c.load_or_forget.ensures in
     record {
       reply = search rules;
       after = search rules;

@@ -4,5 +4,5 @@ use Rattle.board.proofs.Board.new.Goals as goal
 
 pub invariant_of-result : goal.invariant_of-result
 invariant_of-result c =
-    let empty = c.in-ok-table.ensures.0 in
+    let empty = c.in_ok-table.ensures.0 in
     (search rules, (search rules, (search rules, (empty_in_range _ _ empty, (empty_sound _ empty, (search rules, (search rules, tt)))))))

@@ -7,20 +7,20 @@ use Rattle.board.proofs.Empty.{empty_in_range}
 use Rattle.board.proofs.Openings.{opening_ok, opening_few, opening_leaves}
 use Rattle.board.proofs.Board.open.Goals as goal
 
-pub keep-departures-requires : goal.keep-departures-requires
-keep-departures-requires c =
-    let few = opening_few c.args.events c.args.period c.args.departures.now (sym c.in-default.ensures) in
+pub keep_departures-requires : goal.keep_departures-requires
+keep_departures-requires c =
+    let few = opening_few c.args.events c.args.period c.args.departures.now (sym c.in_default.ensures) in
     record { empty = search rules; room = omega (arith, few, c.args.self.now.room.0) }
 
 pub invariant_of-self : goal.invariant_of-self
 invariant_of-self c =
     let empty : vec_items c.args.self.now.table.rows ≡ [] = search (rules, nil_from_length) in
-    let ok = opening_ok c.args.events c.args.period c.args.departures.now (sym c.in-default.ensures) in (
+    let ok = opening_ok c.args.events c.args.period c.args.departures.now (sym c.in_default.ensures) in (
       search rules,
       (
         search rules,
         (
-          (λ _. subst (λ ds. opening_in_range c.args.events c.args.period ds ≡ true) (sym c.keep-departures.ensures.items) ok),
+          (λ _. subst (λ ds. opening_in_range c.args.events c.args.period ds ≡ true) (sym c.keep_departures.ensures.items) ok),
           (empty_in_range _ _ empty, (c.args.self.now.sound, (search rules, (search rules, tt)))),
         ),
       ),
@@ -30,5 +30,5 @@ pub returns : goal.returns
 returns c =
     let empty : vec_items c.args.self.now.table.rows ≡ [] = search (rules, nil_from_length) in
     let new : ledger_of c.args.self.now ≡ nothing = ap (λ opened. cond opened (holding (held_by c.args.self.now)) nothing) c.if-self.false in
-    let left = opening_leaves c.args.events c.args.period c.args.departures.now (sym c.in-default.ensures) (ledger_of c.args.self.now) c.args.mark _ _ new c.keep-departures.ensures.items empty in
+    let left = opening_leaves c.args.events c.args.period c.args.departures.now (sym c.in_default.ensures) (ledger_of c.args.self.now) c.args.mark _ _ new c.keep_departures.ensures.items empty in
     record { reply = left.0; after = left.1; kept = search rules }

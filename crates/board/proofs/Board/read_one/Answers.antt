@@ -7,27 +7,27 @@ use Rattle.board.specs.Holding.{held_by, ledger_of}
 use Rattle.board.proofs.Loading.{step_refused, step_ended, step_trailing, step_judged, step_added}
 use Rattle.board.proofs.Board.read_one.Goals as goal
 
-pub returns-in-err-read-entry : goal.returns-in-err-read-entry
-returns-in-err-read-entry c =
-    let p = err_from_is_err_and c.from-residual.result c.from-residual.ensures.1 in
-    rw (p.1, p.2) (record { opened = c.requires; step = step_refused c.args.bytes.now c.args.place (held_by c.args.self.now) _ (sym c.in-err-read-entry.ensures) })
+pub returns-in_err-read_entry : goal.returns-in_err-read_entry
+returns-in_err-read_entry c =
+    let p = err_from_is_err_and c.from_residual.result c.from_residual.ensures.1 in
+    rw (p.1, p.2) (record { opened = c.requires; step = step_refused c.args.bytes.now c.args.place (held_by c.args.self.now) _ (sym c.in_err-read_entry.ensures) })
 
-pub returns-in-err-read-end : goal.returns-in-err-read-end
-returns-in-err-read-end c =
-    let p = err_from_is_err_and c.from-residual-in-err-read-end.result c.from-residual-in-err-read-end.ensures.1 in
-    let end = sym c.in-ok-read-entry.ensures ∙ ap (λ (e : Entry). Ok e) c.in-End.is in
-    rw (p.1, p.2) (record { opened = c.requires; step = step_trailing c.args.bytes.now c.args.place (held_by c.args.self.now) _ end (sym c.in-err-read-end.ensures) })
+pub returns-in_err-read_end : goal.returns-in_err-read_end
+returns-in_err-read_end c =
+    let p = err_from_is_err_and c.from_residual-in_err-read_end.result c.from_residual-in_err-read_end.ensures.1 in
+    let end = sym c.in_ok-read_entry.ensures ∙ ap (λ (e : Entry). Ok e) c.in-End.is in
+    rw (p.1, p.2) (record { opened = c.requires; step = step_trailing c.args.bytes.now c.args.place (held_by c.args.self.now) _ end (sym c.in_err-read_end.ensures) })
 
-pub returns-in-ok-read-end : goal.returns-in-ok-read-end
-returns-in-ok-read-end c =
-    let end = sym c.in-ok-read-entry.ensures ∙ ap (λ (e : Entry). Ok e) c.in-End.is in
-    record { opened = c.requires; step = step_ended c.args.bytes.now c.args.place (held_by c.args.self.now) end (sym c.in-ok-read-end.ensures) }
+pub returns-in_ok-read_end : goal.returns-in_ok-read_end
+returns-in_ok-read_end c =
+    let end = sym c.in_ok-read_entry.ensures ∙ ap (λ (e : Entry). Ok e) c.in-End.is in
+    record { opened = c.requires; step = step_ended c.args.bytes.now c.args.place (held_by c.args.self.now) end (sym c.in_ok-read_end.ensures) }
 
 pub returns-in-Ok : goal.returns-in-Ok
 returns-in-Ok c =
     let board = c.args.self.now in
     let held = ap (λ opened. cond opened (holding (held_by board)) nothing) c.requires in
-    let entry = sym c.in-ok-read-entry.ensures ∙ ap (λ (e : Entry). Ok e) c.in-Add.is in
+    let entry = sym c.in_ok-read_entry.ensures ∙ ap (λ (e : Entry). Ok e) c.in-Add.is in
     let done = c.in-Ok.ensures in
     let step = step_added c.args.bytes.now c.args.place (held_by board) (ledger_of board) c.in-Add.addition c.add.new.self.opened (held_by c.add.new.self) held entry done.reply done.after in
     let within = addition_within c.args.bytes.now c.args.place c.in-Add.addition entry in
@@ -37,7 +37,7 @@ pub returns-in-Err : goal.returns-in-Err
 returns-in-Err c =
     let board = c.args.self.now in
     let held = ap (λ opened. cond opened (holding (held_by board)) nothing) c.requires in
-    let entry = sym c.in-ok-read-entry.ensures ∙ ap (λ (e : Entry). Ok e) c.in-Add.is in
+    let entry = sym c.in_ok-read_entry.ensures ∙ ap (λ (e : Entry). Ok e) c.in-Add.is in
     let done = c.in-Err.ensures in
     let step = step_judged c.args.bytes.now c.args.place (held_by board) (ledger_of board) c.in-Add.addition c.in-Err.fault c.add.new.self.opened (held_by c.add.new.self) held entry done.reply done.after in
     record { opened = step.0; step = step.1 }

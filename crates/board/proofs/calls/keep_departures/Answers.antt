@@ -7,7 +7,7 @@ loop-d-init c = search (rules, nil_from_length)
 
 pub loop-d-preserved : goal.loop-d-preserved
 loop-d-preserved c = (
-  c.push-reserved.ensures.items ∙ (ap (λ xs. xs ++ get_or c.args.departures.now c.loop-d.d-index 0 ∷ []) c.loop-d.invariant.0 ∙ sym (take_more c.args.departures.now c.loop-d.d-index 0 c.loop-d-test.true)),
+  c.push_reserved.ensures.items ∙ (ap (λ xs. xs ++ get_or c.args.departures.now c.loop-d.d-index 0 ∷ []) c.loop-d.invariant.0 ∙ sym (take_more c.args.departures.now c.loop-d.d-index 0 c.loop-d-test.true)),
   search rules,
 )
 
