@@ -3,7 +3,7 @@ use Rattle.std.specs.Prelude.{ℕ}
 use Rattle.faults.specs.declared.Layer.TheVariants.{Board}
 use Rattle.faults.specs.declared.Report.{Report}
 use Rattle.board.specs.declared.fault.BoardFault.{BoardFault}
-use Rattle.board.specs.declared.fault.BoardFault.TheVariants.{New, Opened, EventCount, Period, Departure, Event, Time, Tokens, Days, Letter, Full, Circuit, Number, NotStanding, NotSuspendable, Ticket, Day, Length}
+use Rattle.board.specs.declared.fault.BoardFault.TheVariants.{New, Opened, EventCount, Period, Departure, Event, Time, Tokens, Days, Letter, Full, Circuit, Number, NotStanding, NotSuspendable, Ticket, Length}
 
 -- a number of layer board, at place 0
 abbrev pub at_board : ℕ → Report
@@ -27,5 +27,4 @@ board_report Number = at_board 13
 board_report NotStanding = at_board 14
 board_report NotSuspendable = at_board 15
 board_report Ticket = at_board 16
-board_report Day = at_board 17
 board_report Length = at_board 18

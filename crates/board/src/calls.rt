@@ -113,7 +113,8 @@ fn standing(addition: &Addition) -> Constraint
 impl Board {
     // A new board. It fails only for want of memory; no later call wants any.
     pub fn new(heap: Global) -> Result<Board, AllocError>
-        ensures { IfOk result (λ b. (ledger_of b ≡ nothing) × (kept_day b ≡ None)) }
+        ensures ledger { IfOk result (λ b. ledger_of b ≡ nothing) }
+        ensures kept { IfOk result (λ b. kept_day b ≡ None) }
     {
         let departures = Vec::with_capacity(heap, 32)?;
         let table = ConstraintTable::new(heap)?;
@@ -160,7 +161,7 @@ impl Board {
     }
 
     // Adds a constraint, standing, and answers its number: the count of additions accepted before. Refused with 1 and with 6 to 12.
-    pub fn add(&mut self, addition: Addition) -> Result<u16, BoardFault>
+    pub fn add(&mut self, addition: Addition) -> Result<u8, BoardFault>
         ensures reply { fault_of result ≡ add_fault (ledger_of self.old) addition }
         ensures number { IfOk result (λ k. k ≡ next_number (ledger_of self.old)) }
         ensures after { ledger_of self.new ≡ add_after (ledger_of self.old) addition }
@@ -170,7 +171,7 @@ impl Board {
         self.append(addition)
     }
 
-    fn append(&mut self, addition: Addition) -> Result<u16, BoardFault>
+    fn append(&mut self, addition: Addition) -> Result<u8, BoardFault>
         ensures reply { fault_of result ≡ add_fault (ledger_of self.old) addition }
         ensures number { IfOk result (λ k. k ≡ next_number (ledger_of self.old)) }
         ensures after { ledger_of self.new ≡ add_after (ledger_of self.old) addition }
@@ -190,7 +191,7 @@ impl Board {
         match self.table.push(standing(&addition)) {
             Ok(()) => {
                 self.current = false;
-                Ok(count as u16)
+                Ok(count as u8)
             }
             Err(_) => unreachable(),
         }

@@ -41,8 +41,6 @@ pub enum BoardFault {
     NotSuspendable,
     // a ticket of another mark, or of a number that is not suspended
     Ticket,
-    // the day is above 6
-    Day,
     // a list has the wrong length
     Length,
 }
@@ -69,7 +67,6 @@ impl BoardFault {
             BoardFault::NotStanding => 14,
             BoardFault::NotSuspendable => 15,
             BoardFault::Ticket => 16,
-            BoardFault::Day => 17,
             BoardFault::Length => 18,
         }
     }

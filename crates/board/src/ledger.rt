@@ -11,7 +11,7 @@ use crate::{Board, BoardFault, Ticket};
 use timetable::{Constraint, LedgerEvent, State};
 
 // The standing constraint of a number, or why there is none: the number was never given, or the constraint is suspended or withdrawn.
-fn standing_at(constraints: &[Constraint], number: u16) -> Result<Constraint, BoardFault>
+fn standing_at(constraints: &[Constraint], number: u8) -> Result<Constraint, BoardFault>
     ensures fault { fault_of result ≡ standing_fault constraints.now number None }
     ensures row { IfOk result (λ c. c ≡ row_at constraints.now number) }
 {
@@ -28,7 +28,7 @@ fn standing_at(constraints: &[Constraint], number: u16) -> Result<Constraint, Bo
 }
 
 // Whether the constraint of a number is suspended.
-fn is_suspended(constraints: &[Constraint], number: u16) -> bool
+fn is_suspended(constraints: &[Constraint], number: u8) -> bool
     ensures { result ≡ suspended (row_at constraints.now number).state }
 {
     let at = usize::from(number);
@@ -51,7 +51,7 @@ impl Ticket {
     }
 
     // The number of the suspended constraint.
-    pub fn number(&self) -> u16
+    pub fn number(&self) -> u8
         ensures { result ≡ self.now.number }
     {
         self.number
@@ -68,7 +68,7 @@ fn stays_current(current: bool, event: LedgerEvent) -> bool
 impl Board {
     // Changes the state of the constraint of a number by an event, where the event is due. The kept recovery table stays current only
     // where the event can't change what counts.
-    fn change(&mut self, number: u16, event: LedgerEvent)
+    fn change(&mut self, number: u8, event: LedgerEvent)
         ensures after { ledger_of self.new ≡ changed_at (moved event) number (ledger_of self.old) }
         ensures kept { kept_day self.new ≡ kept_through event (kept_day self.old) }
     {
@@ -77,7 +77,7 @@ impl Board {
     }
 
     // Gives a standing constraint another time. Refused with 1, 7, 13 and 14.
-    pub fn retime(&mut self, number: u16, time: u16) -> Result<(), BoardFault>
+    pub fn retime(&mut self, number: u8, time: u16) -> Result<(), BoardFault>
         ensures reply { fault_of result ≡ retime_fault (ledger_of self.old) number time }
         ensures after { ledger_of self.new ≡ retime_after (ledger_of self.old) number time }
         ensures kept { kept_day self.new ≡ kept_after (fault_of result) (kept_day self.old) }
@@ -95,7 +95,7 @@ impl Board {
     }
 
     // Withdraws a standing constraint for good. Refused with 1, 13 and 14.
-    pub fn withdraw(&mut self, number: u16) -> Result<(), BoardFault>
+    pub fn withdraw(&mut self, number: u8) -> Result<(), BoardFault>
         ensures reply { fault_of result ≡ withdraw_fault (ledger_of self.old) number }
         ensures after { ledger_of self.new ≡ withdraw_after (ledger_of self.old) number }
         ensures kept { kept_day self.new ≡ kept_after (fault_of result) (kept_day self.old) }
@@ -109,7 +109,7 @@ impl Board {
     }
 
     // Suspends a standing constraint of letter T or H and hands out its ticket. Refused with 1, 13, 14 and 15.
-    pub fn suspend(&mut self, number: u16) -> Result<Ticket, BoardFault>
+    pub fn suspend(&mut self, number: u8) -> Result<Ticket, BoardFault>
         ensures reply { fault_of result ≡ suspend_fault (ledger_of self.old) number }
         ensures ticket { IfOk result (λ t. (t.mark ≡ mark_of (ledger_of self.old)) × (t.number ≡ number)) }
         ensures after { ledger_of self.new ≡ suspend_after (ledger_of self.old) number }

@@ -46,5 +46,5 @@ pub struct Board {
 // dismissing the constraint ends it.
 pub struct Ticket {
     mark: u16,
-    number: u16,
+    number: u8,
 }

@@ -78,7 +78,7 @@ fn an_addition_is_refused_for_its_lowest_cause(rt: HostRuntime) -> Result<(), Fa
 #[test]
 fn a_board_takes_128_constraints(rt: HostRuntime) -> Result<(), Fail> {
     let mut board = opened(rt.alloc())?;
-    for number in 0..128u16 {
+    for number in 0..128u8 {
         assert_eq!(rt; board.add(free(0, 1, 127)), Ok(number));
     }
     // full comes before the circuit

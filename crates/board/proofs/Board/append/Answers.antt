@@ -43,16 +43,13 @@ invariant_of-self c =
     let p = passed board.events c.len-count.result a (sym c.in_default.ensures) in
     let grown : rows ++ constraint_of a ∷ [] ≡ vec_items c.push.new.self.rows = sym (c.in-Ok.ensures.rows ∙ ap (λ x. rows ++ x ∷ []) c.standing.ensures) in
     let same = ap (λ n. closes_circuit n c.as_slice.result.now a) c.from-events.ensures ∙ ap (λ x. closes_circuit board.events x a) c.as_slice.ensures.value in
-    let few : vec_len c.push.new.self.rows ≤ 128 = omega (arith, p.room, c.len-count.ensures, board.table.rows.ok.0, c.push.new.self.rows.ok.0, ap length grown, length-append rows (constraint_of a ∷ [])) in (
-      search rules,
-      (
-        few,
-        (
-          search rules,
-          (
-            subst (λ x. all_in_range board.events x ≡ true) grown (range_more board.events rows (constraint_of a) board.ranges (passed_in_range board.events c.len-count.result a p)),
-            (subst NoFreeCircuit grown (sound_more board.events rows a board.ranges p.from (sym same ∙ sym c.if-closes_circuit.ensures) board.sound), (search rules, (search rules, tt))),
-          ),
-        ),
-      ),
-    )
+    let few : vec_len c.push.new.self.rows ≤ 128 = omega (arith, p.room, c.len-count.ensures, board.table.rows.ok.0, c.push.new.self.rows.ok.0, ap length grown, length-append rows (constraint_of a ∷ [])) in
+    record {
+      room = search rules;
+      few = few;
+      opening = search rules;
+      ranges = subst (λ x. all_in_range board.events x ≡ true) grown (range_more board.events rows (constraint_of a) board.ranges (passed_in_range board.events c.len-count.result a p));
+      sound = subst NoFreeCircuit grown (sound_more board.events rows a board.ranges p.from (sym same ∙ sym c.if-closes_circuit.ensures) board.sound);
+      held = search rules;
+      blank = search rules;
+    }

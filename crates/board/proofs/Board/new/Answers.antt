@@ -5,4 +5,12 @@ use Rattle.board.proofs.Board.new.Goals as goal
 pub invariant_of-result : goal.invariant_of-result
 invariant_of-result c =
     let empty = c.in_ok-table.ensures.0 in
-    (search rules, (search rules, (search rules, (empty_in_range _ _ empty, (empty_sound _ empty, (search rules, (search rules, tt)))))))
+    record {
+      room = search rules;
+      few = search rules;
+      opening = search rules;
+      ranges = empty_in_range _ _ empty;
+      sound = empty_sound _ empty;
+      held = search rules;
+      blank = search rules;
+    }

@@ -15,16 +15,16 @@ keep_departures-requires c =
 pub invariant_of-self : goal.invariant_of-self
 invariant_of-self c =
     let empty : vec_items c.args.self.now.table.rows ≡ [] = search (rules, nil_from_length) in
-    let ok = opening_ok c.args.events c.args.period c.args.departures.now (sym c.in_default.ensures) in (
-      search rules,
-      (
-        search rules,
-        (
-          (λ _. subst (λ ds. opening_in_range c.args.events c.args.period ds ≡ true) (sym c.keep_departures.ensures.items) ok),
-          (empty_in_range _ _ empty, (c.args.self.now.sound, (search rules, (search rules, tt)))),
-        ),
-      ),
-    )
+    let ok = opening_ok c.args.events c.args.period c.args.departures.now (sym c.in_default.ensures) in
+    record {
+      room = search rules;
+      few = search rules;
+      opening = λ _. subst (λ ds. opening_in_range c.args.events c.args.period ds ≡ true) (sym c.keep_departures.ensures.items) ok;
+      ranges = empty_in_range _ _ empty;
+      sound = c.args.self.now.sound;
+      held = search rules;
+      blank = search rules;
+    }
 
 pub returns : goal.returns
 returns c =

@@ -12,16 +12,16 @@ returns-in_err-read_entry c =
     let p = err_from_is_err_and c.from_residual.result c.from_residual.ensures.1 in
     rw (p.1, p.2) (record { opened = c.requires; step = step_refused c.args.bytes.now c.args.place (held_by c.args.self.now) _ (sym c.in_err-read_entry.ensures) })
 
-pub returns-in_err-read_end : goal.returns-in_err-read_end
-returns-in_err-read_end c =
-    let p = err_from_is_err_and c.from_residual-in_err-read_end.result c.from_residual-in_err-read_end.ensures.1 in
+pub returns-in_err-read_end-in-End : goal.returns-in_err-read_end-in-End
+returns-in_err-read_end-in-End c =
+    let p = err_from_is_err_and c.from_residual-in_err-read_end-in-End.result c.from_residual-in_err-read_end-in-End.ensures.1 in
     let end = sym c.in_ok-read_entry.ensures ∙ ap (λ (e : Entry). Ok e) c.in-End.is in
-    rw (p.1, p.2) (record { opened = c.requires; step = step_trailing c.args.bytes.now c.args.place (held_by c.args.self.now) _ end (sym c.in_err-read_end.ensures) })
+    rw (p.1, p.2) (record { opened = c.requires; step = step_trailing c.args.bytes.now c.args.place (held_by c.args.self.now) _ end (sym c.in_err-read_end-in-End.ensures) })
 
-pub returns-in_ok-read_end : goal.returns-in_ok-read_end
-returns-in_ok-read_end c =
+pub returns-in_ok-read_end-in-End : goal.returns-in_ok-read_end-in-End
+returns-in_ok-read_end-in-End c =
     let end = sym c.in_ok-read_entry.ensures ∙ ap (λ (e : Entry). Ok e) c.in-End.is in
-    record { opened = c.requires; step = step_ended c.args.bytes.now c.args.place (held_by c.args.self.now) end (sym c.in_ok-read_end.ensures) }
+    record { opened = c.requires; step = step_ended c.args.bytes.now c.args.place (held_by c.args.self.now) end (sym c.in_ok-read_end-in-End.ensures) }
 
 pub returns-in-Ok : goal.returns-in-Ok
 returns-in-Ok c =

@@ -13,16 +13,13 @@ invariant_of-self c =
     let k = c.from.result in
     let after : changed (λ x. with_time x time) rows k ≡ vec_items c.retime.new.self.rows = sym c.retime.ensures.rows in
     let len = length_changed (λ x. with_time x time) rows k in
-    let few : vec_len c.retime.new.self.rows ≤ 128 = omega (arith, board.few, board.table.rows.ok.0, c.retime.new.self.rows.ok.0, ap length after, len) in (
-      search rules,
-      (
-        few,
-        (
-          search rules,
-          (
-            subst (λ x. all_in_range board.events x ≡ true) after (range_retimed board.events time (omega arith) rows k board.ranges),
-            (subst NoFreeCircuit after (sound_retimed time rows k board.sound), (search rules, (search rules, tt))),
-          ),
-        ),
-      ),
-    )
+    let few : vec_len c.retime.new.self.rows ≤ 128 = omega (arith, board.few, board.table.rows.ok.0, c.retime.new.self.rows.ok.0, ap length after, len) in
+    record {
+      room = search rules;
+      few = few;
+      opening = search rules;
+      ranges = subst (λ x. all_in_range board.events x ≡ true) after (range_retimed board.events time (omega arith) rows k board.ranges);
+      sound = subst NoFreeCircuit after (sound_retimed time rows k board.sound);
+      held = search rules;
+      blank = search rules;
+    }
