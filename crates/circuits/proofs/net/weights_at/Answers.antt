@@ -8,9 +8,9 @@ use Rattle.circuits.proofs.net.weights_at.Goals as goal
 pub returns : goal.returns
 returns c = record {
   each = λ k h.
-      c.weights-against.ensures.each k h
+      c.weights_against.ensures.each k h
       ∙ weight_of_back c.args.arcs.now c.from.result (pos 1) k (omega (arith, ints, c.from.ensures, c.ranges.price)) (omega (arith, ints))
       ∙ ap (λ g. weight_of c.args.arcs.now g (pos 1) k) c.from.ensures
       ∙ weight_at_is c.args.arcs.now c.args.price k;
-  modest = c.weights-against.ensures.modest;
+  modest = c.weights_against.ensures.modest;
 }

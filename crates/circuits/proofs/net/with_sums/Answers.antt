@@ -4,14 +4,14 @@ use Rattle.circuits.proofs.Nets.{some_arcs, still_circuit}
 use Rattle.circuits.proofs.Ratios.{listed_known, own_sums}
 use Rattle.circuits.proofs.net.with_sums.Goals as goal
 
-pub from-lowest-circuit-requires : goal.from-lowest-circuit-requires
-from-lowest-circuit-requires c = record { some = some_arcs c.args.arcs.now c.args.circuit.now c.requires.circuit; short = c.requires.short }
+pub from_lowest-circuit-requires : goal.from_lowest-circuit-requires
+from_lowest-circuit-requires c = record { some = some_arcs c.args.arcs.now c.args.circuit.now c.requires.circuit; short = c.requires.short }
 
-pub sums-along-gain-requires : goal.sums-along-gain-requires
-sums-along-gain-requires c =
+pub sums_along-gain-requires : goal.sums_along-gain-requires
+sums_along-gain-requires c =
     let A = c.args.arcs.now in
-    let f = c.from-lowest-circuit.result in
-    let t = c.from-lowest-circuit.ensures in
+    let f = c.from_lowest-circuit.result in
+    let t = c.from_lowest-circuit.ensures in
     let len : length f.arcs ≡ 32 = search rules in
     let short : f.len ≤ 32 = omega (arith, t.len, c.requires.short) in
     let is : CircuitOf A (numbers_of f) = still_circuit A c.args.circuit.now f t c.requires.circuit in
@@ -24,12 +24,12 @@ sums-along-gain-requires c =
 pub returns : goal.returns
 returns c =
     let A = c.args.arcs.now in
-    let f = c.from-lowest-circuit.result in
-    let t = c.from-lowest-circuit.ensures in
+    let f = c.from_lowest-circuit.result in
+    let t = c.from_lowest-circuit.ensures in
     let len : length f.arcs ≡ 32 = search rules in
     let short : f.len ≤ 32 = omega (arith, t.len, c.requires.short) in
     let is : CircuitOf A (numbers_of f) = still_circuit A c.args.circuit.now f t c.requires.circuit in
     record {
-      own = own_sums A c.requires.small f len short c.sums-along-gain.result.0 c.sums-along-gain.result.1 c.sums-along-gain.ensures.gains c.sums-along-gain.ensures.costs is;
+      own = own_sums A c.requires.small f len short c.sums_along-gain.result.0 c.sums_along-gain.result.1 c.sums_along-gain.ensures.gains c.sums_along-gain.ensures.costs is;
       turned = t;
     }

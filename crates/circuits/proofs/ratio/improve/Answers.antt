@@ -3,8 +3,8 @@ use Rattle.circuits.specs.Ratios.{BetterCircuit}
 use Rattle.circuits.proofs.Ratios.{best_fits, best_falls, best_last, cost_above, for_nothing, own_fair, back}
 use Rattle.circuits.proofs.ratio.improve.Goals as goal
 
-pub better-circuit-requires : goal.better-circuit-requires
-better-circuit-requires c =
+pub better_circuit-requires : goal.better_circuit-requires
+better_circuit-requires c =
     let t = best_fits c.args.arcs.now c.requires.small c.rising.best _ _ c.rising.invariant in
     record {
       some = c.requires.some;

@@ -7,13 +7,13 @@ use Rattle.circuits.specs.Walks.{nth}
 use Rattle.circuits.proofs.Ratios.{sum_push}
 use Rattle.circuits.proofs.ratio.sums_along.Goals as goal
 
-pub overflow-add-gain : goal.overflow-add-gain
-overflow-add-gain c =
+pub overflow_add-gain : goal.overflow_add-gain
+overflow_add-gain c =
     let small = All-get_or _ c.args.arcs.now (nth c.args.circuit.now.arcs c.loop-i.i) no_arc (c.requires.known c.loop-i.i c.loop-i-test.true) c.requires.small in
     omega (arith, ints, c.loop-i.invariant.1, small.0, c.requires.short)
 
-pub overflow-add-cost : goal.overflow-add-cost
-overflow-add-cost c =
+pub overflow_add-cost : goal.overflow_add-cost
+overflow_add-cost c =
     let small = All-get_or _ c.args.arcs.now (nth c.args.circuit.now.arcs c.loop-i.i) no_arc (c.requires.known c.loop-i.i c.loop-i-test.true) c.requires.small in
     omega (arith, ints, c.loop-i.invariant.3, small.2, c.requires.short)
 

@@ -10,24 +10,24 @@ use Rattle.circuits.proofs.ratio.weights_against.Goals as goal
 pub loop-k-init : goal.loop-k-init
 loop-k-init c = (search rules, λ k h. absurd (omega arith), zeros_modest 128)
 
-pub overflow-mul-weights : goal.overflow-mul-weights
-overflow-mul-weights c =
+pub overflow_mul-weights : goal.overflow_mul-weights
+overflow_mul-weights c =
     let A = c.args.arcs.now in
     let k = c.loop-k.k in
     let small = All-get_or _ A k no_arc c.loop-k-test.true c.requires.small in
     let h = x_small (gain_of A k) (cost_of A k) c.args.gain c.args.cost small.0 small.2 c.requires.gains c.requires.costs in
     small_fits _ h
 
-pub overflow-mul-weights-in-loop-k : goal.overflow-mul-weights-in-loop-k
-overflow-mul-weights-in-loop-k c =
+pub overflow_mul-weights-in-loop-k : goal.overflow_mul-weights-in-loop-k
+overflow_mul-weights-in-loop-k c =
     let A = c.args.arcs.now in
     let k = c.loop-k.k in
     let small = All-get_or _ A k no_arc c.loop-k-test.true c.requires.small in
     let h = y_small (gain_of A k) (cost_of A k) c.args.gain c.args.cost small.0 small.2 c.requires.gains c.requires.costs in
     small_fits _ h
 
-pub overflow-sub-weights : goal.overflow-sub-weights
-overflow-sub-weights c =
+pub overflow_sub-weights : goal.overflow_sub-weights
+overflow_sub-weights c =
     let A = c.args.arcs.now in
     let k = c.loop-k.k in
     let small = All-get_or _ A k no_arc c.loop-k-test.true c.requires.small in

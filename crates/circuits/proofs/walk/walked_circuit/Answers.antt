@@ -5,8 +5,8 @@ use Rattle.circuits.proofs.Rises.{below_wider}
 use Rattle.circuits.proofs.Walks.{walk_chain, closes_once, piece_gains}
 use Rattle.circuits.proofs.walk.walked_circuit.Goals as goal
 
-pub walk-back-path-requires : goal.walk-back-path-requires
-walk-back-path-requires c = record {
+pub walk_back-path-requires : goal.walk_back-path-requires
+walk_back-path-requires c = record {
   paired = c.requires.paired;
   within = below_wider c.args.n c.args.arcs.now c.requires.few c.requires.within;
   modest = c.requires.modest;
@@ -16,19 +16,19 @@ walk-back-path-requires c = record {
   rises = c.requires.rises;
 }
 
-pub closed-part-s-requires : goal.closed-part-s-requires
-closed-part-s-requires c = record {
+pub closed_part-s-requires : goal.closed_part-s-requires
+closed_part-s-requires c = record {
   some = c.requires.some;
   few = c.requires.few;
-  known = λ i h. (c.walk-back-path.ensures.steps i (omega arith) h).inside;
-  closes = closes_once c.args.arcs.now c.args.n c.walk-back-path.result (walk_chain c.args.arcs.now (at c.args.weights.now) c.args.n 0 c.walk-back-path.result c.walk-back-path.ensures) c.requires.within c.requires.some;
+  known = λ i h. (c.walk_back-path.ensures.steps i (omega arith) h).inside;
+  closes = closes_once c.args.arcs.now c.args.n c.walk_back-path.result (walk_chain c.args.arcs.now (at c.args.weights.now) c.args.n 0 c.walk_back-path.result c.walk_back-path.ensures) c.requires.within c.requires.some;
 }
 
 pub returns : goal.returns
 returns c =
-    let len : length c.walk-back-path.result ≡ 32 = search rules in
+    let len : length c.walk_back-path.result ≡ 32 = search rules in
     record {
-      gains = subst (GainingCircuit c.args.arcs.now (at c.args.weights.now)) (sym c.cut-out.ensures.numbers)
-          (piece_gains c.args.arcs.now (at c.args.weights.now) c.args.n c.walk-back-path.result c.walk-back-path.ensures _ _ (omega (arith, c.requires.few)) c.closed-part-s.ensures);
-      short = c.cut-out.ensures.short;
+      gains = subst (GainingCircuit c.args.arcs.now (at c.args.weights.now)) (sym c.cut_out.ensures.numbers)
+          (piece_gains c.args.arcs.now (at c.args.weights.now) c.args.n c.walk_back-path.result c.walk_back-path.ensures _ _ (omega (arith, c.requires.few)) c.closed_part-s.ensures);
+      short = c.cut_out.ensures.short;
     }
