@@ -1,3 +1,4 @@
 pub mod Places
 pub mod Held
+pub mod Taken
 pub mod Closing

@@ -7,6 +7,7 @@ ghost use Rattle.planning.specs.Tickets.{HoldsTickets};
 
 use board::{Board, Ticket};
 
+mod numbers;
 mod performing;
 mod tickets;
 

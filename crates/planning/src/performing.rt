@@ -12,7 +12,7 @@ ghost use Rattle.calls.specs.Histories.{unless_fault, call_after, reply_to, ledg
 ghost use Rattle.calls.specs.Laws.{HistoryLaw};
 ghost use Rattle.planning.specs.Sessions.{session_ledger};
 
-use crate::{HeldTickets, Session};
+use crate::{HeldTickets, Session, numbers};
 use board::{Board, BoardFault, Ticket};
 use board_file::LoadFault;
 use calls::{Call, CallFault, Reply};
@@ -83,7 +83,7 @@ impl Session {
         ensures mark { IfOk result (λ m. m ≡ mark_of (session_ledger self.old)) }
         ensures after { session_ledger self.new ≡ suspend_after (session_ledger self.old) number }
     {
-        match self.board.suspend(number) {
+        match numbers::suspend(&mut self.board, number) {
             Ok(ticket) => {
                 let mark = ticket.mark();
                 self.tickets.put(usize::from(number), ticket);
@@ -124,11 +124,11 @@ impl Session {
             ),
             Call::Load { bytes } => loaded(self.board.load(bytes.as_slice())),
             Call::Add(addition) => match self.board.add(*addition) {
-                Ok(number) => Reply::Number(number),
+                Ok(number) => Reply::Number(u16::from(number)),
                 Err(fault) => Reply::Refused(CallFault::Board(fault)),
             },
-            Call::Retime { number, time } => done(self.board.retime(*number, *time)),
-            Call::Withdraw { number } => done(self.board.withdraw(*number)),
+            Call::Retime { number, time } => done(numbers::retime(&mut self.board, *number, *time)),
+            Call::Withdraw { number } => done(numbers::withdraw(&mut self.board, *number)),
             Call::Suspend { number } => match self.suspend(*number) {
                 Ok(mark) => Reply::Ticket {
                     mark,

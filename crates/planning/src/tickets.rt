@@ -79,7 +79,7 @@ impl HeldTickets {
     {
         for place in self.places.as_slice() {
             if let Some(ticket) = place {
-                return Some((ticket.mark(), ticket.number()));
+                return Some((ticket.mark(), u16::from(ticket.number())));
             }
         }
         None

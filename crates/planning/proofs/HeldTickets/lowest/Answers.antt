@@ -5,13 +5,13 @@ use Rattle.planning.proofs.HeldTickets.lowest.Goals as goal
 
 pub returns-in-Some : goal.returns-in-Some
 returns-in-Some c =
-    let first = first_step (places_of c.args.self.now) c.as-slice-place-items.result.now c.as-slice-place-items.ensures.value c.loop-place.place-index (Some c.in-Some.ticket) c.loop-place-test.true c.in-Some.is c.loop-place.invariant in
-    ap (λ (m : ℕ). Some (m, c.number.result)) c.mark.ensures ∙ (ap (λ (n : ℕ). Some (c.in-Some.ticket.mark, n)) c.number.ensures ∙ first)
+    let first = first_step (places_of c.args.self.now) c.as_slice-place-items.result.now c.as_slice-place-items.ensures.value c.loop-place.place-index (Some c.in-Some.ticket) c.loop-place-test.true c.in-Some.is c.loop-place.invariant in
+    ap (λ (m : ℕ). Some (m, c.from.result)) c.mark.ensures ∙ (ap (λ (n : ℕ). Some (c.in-Some.ticket.mark, n)) (c.from.ensures ∙ c.number.ensures) ∙ first)
 
 pub loop-place-preserved : goal.loop-place-preserved
 loop-place-preserved c =
-    first_step (places_of c.args.self.now) c.as-slice-place-items.result.now c.as-slice-place-items.ensures.value c.loop-place.place-index None c.loop-place-test.true c.in-default.is c.loop-place.invariant
+    first_step (places_of c.args.self.now) c.as_slice-place-items.result.now c.as_slice-place-items.ensures.value c.loop-place.place-index None c.loop-place-test.true c.in_default.is c.loop-place.invariant
 
 pub returns : goal.returns
 returns c =
-    first_none (places_of c.args.self.now) c.as-slice-place-items.result.now c.as-slice-place-items.ensures.value c.loop-place.place-index c.loop-place-test.false c.loop-place.invariant
+    first_none (places_of c.args.self.now) c.as_slice-place-items.result.now c.as_slice-place-items.ensures.value c.loop-place.place-index c.loop-place-test.false c.loop-place.invariant

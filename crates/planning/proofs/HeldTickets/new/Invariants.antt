@@ -3,6 +3,6 @@ use Rattle.planning.proofs.HeldTickets.new.Given as goal
 
 abbrev pub invariant-loop-k : goal.invariant-loop-k
 invariant-loop-k l =
-    (vec_items l.places ≡ replicate l.-k None)
-    × (vec_len l.places ≡ l.-k)
+    (vec_items l.places ≡ replicate l._k None)
+    × (vec_len l.places ≡ l._k)
     × (128 ≤ vec_capacity l.places)

@@ -9,22 +9,22 @@ use Rattle.planning.proofs.Closing.{one_less, closed_on, closed_settled, none_he
 use Rattle.planning.proofs.Session.close.Goals as goal
 
 pub loop-smaller : goal.loop-smaller
-loop-smaller c = one_less (session_ledger c.loop.self) (session_ledger c.dismiss-lowest.new.self) c.in-Some.field-0 (sym c.in-Some.ensures.ticket) c.in-Some.ensures.after
+loop-smaller c = one_less (session_ledger c.loop.self) (session_ledger c.dismiss_lowest.new.self) c.in-Some.field-0 (sym c.in-Some.ensures.ticket) c.in-Some.ensures.after
 
 pub loop-preserved : goal.loop-preserved
-loop-preserved c = closed_on (session_ledger c.loop.self) (session_ledger c.dismiss-lowest.new.self) c.in-Some.field-0 c.in-Some.ensures.after ∙ c.loop.invariant
+loop-preserved c = closed_on (session_ledger c.loop.self) (session_ledger c.dismiss_lowest.new.self) c.in-Some.field-0 c.in-Some.ensures.after ∙ c.loop.invariant
 
 pub destroy-requires : goal.destroy-requires
 destroy-requires c =
-    let s = c.dismiss-lowest.new.self in
+    let s = c.dismiss_lowest.new.self in
     let few = few_rows s.board.opened (held_by s.board) (omega (arith, s.board.few, s.board.table.rows.ok.0)) in
-    let none = ap lowest_ticket c.in-default.ensures.after ∙ sym c.in-default.ensures.ticket in
+    let none = ap lowest_ticket c.in_default.ensures.after ∙ sym c.in_default.ensures.ticket in
     none_held (session_ledger s) (places_of s.tickets) s.held none few
 
 pub returns : goal.returns
 returns c =
-    let s = c.dismiss-lowest.new.self in
+    let s = c.dismiss_lowest.new.self in
     let few = few_rows s.board.opened (held_by s.board) (omega (arith, s.board.few, s.board.table.rows.ok.0)) in
-    let same = c.in-default.ensures.after in
-    let none = ap lowest_ticket same ∙ sym c.in-default.ensures.ticket in
+    let same = c.in_default.ensures.after in
+    let none = ap lowest_ticket same ∙ sym c.in_default.ensures.ticket in
     sym (closed_settled (session_ledger s) none few) ∙ (ap closed same ∙ c.loop.invariant)

@@ -17,10 +17,10 @@ invariant_of-self-in-Some c =
     let found = sym c.in-Some.ensures.ticket in
     let own = held_own (ledger_of s.board) c.args.mark k c.in-Some.ticket places s.held found in
     let place = taken_place places c.args.mark k c.in-Some.ticket found in
-    let after = c.spend-on.ensures.after ∙ own_after (cond c.args.restoring Restore Dismiss) (ledger_of s.board) c.args.mark k c.in-Some.ticket own in
-    let holds = spent_either c.args.restoring (ledger_of s.board) (ledger_of c.spend-on.new.board) c.args.mark k places place.0 s.held own.accepted after in
+    let after = c.spend_on.ensures.after ∙ own_after (cond c.args.restoring Restore Dismiss) (ledger_of s.board) c.args.mark k c.in-Some.ticket own in
+    let holds = spent_either c.args.restoring (ledger_of s.board) (ledger_of c.spend_on.new.board) c.args.mark k places place.0 s.held own.accepted after in
     let written : set places k None ≡ places_of c.take.new.self = sym (c.take.ensures.after ∙ place.1) in
-    (omega (arith, c.take.ensures.count, s.count), (subst (HoldsTickets (ledger_of c.spend-on.new.board)) written holds, tt))
+    record { count = omega (arith, c.take.ensures.count, s.count); held = subst (HoldsTickets (ledger_of c.spend_on.new.board)) written holds }
 
 pub unreachable-requires : goal.unreachable-requires
 unreachable-requires c =
@@ -42,7 +42,7 @@ pub returns-in-Ok : goal.returns-in-Ok
 returns-in-Ok c =
     let s = c.args.self.now in
     let own = held_own (ledger_of s.board) c.args.mark c.from.result c.in-Some.ticket (places_of s.tickets) s.held (sym c.in-Some.ensures.ticket) in
-    let after = c.spend-on.ensures.after ∙ own_after (cond c.args.restoring Restore Dismiss) (ledger_of s.board) c.args.mark c.from.result c.in-Some.ticket own in
+    let after = c.spend_on.ensures.after ∙ own_after (cond c.args.restoring Restore Dismiss) (ledger_of s.board) c.args.mark c.from.result c.in-Some.ticket own in
     record {
       reply = sym (ap (λ n. spend_fault (ledger_of s.board) c.args.mark n) (sym c.from.ensures) ∙ own.accepted);
       after = after ∙ ap (λ n. spend_after (cond c.args.restoring Restore Dismiss) (ledger_of s.board) c.args.mark n) c.from.ensures;

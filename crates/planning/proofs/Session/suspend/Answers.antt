@@ -24,6 +24,6 @@ invariant_of-self c =
     let few = few_rows s.board.opened (held_by s.board) (omega (arith, s.board.few, s.board.table.rows.ok.0)) in
     let done = c.in-Ok.ensures in
     let empty = place_empty (ledger_of s.board) c.args.number places few s.held (sym done.reply) in
-    let holds = suspended_holds (ledger_of s.board) (ledger_of c.suspend.new.self) c.args.number c.in-Ok.ticket places (omega (arith, empty.0, s.count, s.tickets.places.ok.0)) s.held (sym done.reply) done.after done.ticket.0 done.ticket.1 in
+    let holds = suspended_holds (ledger_of s.board) (ledger_of c.suspend.new.board) c.args.number c.in-Ok.ticket places (omega (arith, empty.0, s.count, s.tickets.places.ok.0)) s.held (sym done.reply) done.after done.ticket.0 done.ticket.1 in
     let written : set places c.args.number (Some c.in-Ok.ticket) ≡ places_of c.put.new.self = sym (c.put.ensures.after ∙ ap (λ k. set places k (Some c.in-Ok.ticket)) c.from.ensures) in
-    (omega (arith, c.put.ensures.count, s.count), (subst (HoldsTickets (ledger_of c.suspend.new.self)) written holds, tt))
+    record { count = omega (arith, c.put.ensures.count, s.count); held = subst (HoldsTickets (ledger_of c.suspend.new.board)) written holds }
