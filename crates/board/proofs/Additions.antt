@@ -8,7 +8,6 @@ use Rattle.faults.proofs.Refusals.{unless_none}
 use Rattle.weights.specs.DaysKind.{Weekday, days_of, some_weekday}
 use Rattle.weights.specs.DaysLaws.{some_day, some_from_day}
 use Rattle.runs.specs.Nets.{In, IsCircuit}
-use Rattle.runs.specs.Tables.{every}
 use Rattle.runs.proofs.Members.{in?}
 use Rattle.runs.proofs.Searches.{and_both, and_first, and_second}
 use Rattle.timetable.specs.declared.Addition.{Addition}

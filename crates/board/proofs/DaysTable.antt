@@ -16,7 +16,7 @@ use Rattle.runs.specs.declared.TableFault.TheVariants.{EventCount, Event, Length
 use Rattle.runs.specs.Runs.{weigh, closed_runs, cell}
 use Rattle.runs.specs.Gaining.{some_gains, found_or, lowest, gaining_event}
 use Rattle.runs.specs.Links.{no_link, net_of, at}
-use Rattle.runs.specs.Tables.{every, in_range, events_below, right_lengths, spans_at_most_one, gain_fault, table_fault, CellsAfter, Tabled}
+use Rattle.runs.specs.Tables.{in_range, events_below, right_lengths, spans_at_most_one, gain_fault, table_fault, CellsAfter, Tabled}
 use Rattle.runs.proofs.Columns.{fill_more}
 use Rattle.runs.proofs.Searches.{and_first, and_second}
 use Rattle.timetable.specs.declared.Constraint.{Constraint}

@@ -1,9 +1,9 @@
 -- What an opened or a new board lends.
-use Rattle.std.proofs.Common.{◌≡◌, ℕ, ◌≤◌, Bool, true, false, cond, List, [], ◌∷◌, length, sym, refl, subst, arith}
+use Rattle.std.proofs.Common.{◌≡◌, ◌≤◌, Bool, true, false, cond, List, [], ◌∷◌, length, refl, arith}
 use Rattle.timetable.specs.declared.Constraint.{Constraint}
 use Rattle.board.specs.Circuits.{NoFreeCircuit}
 use Rattle.board.specs.Invariant.{opening_in_range, all_in_range}
-use Rattle.board.specs.Ledger.{Ledger, nothing, holding, Held}
+use Rattle.board.specs.Ledger.{nothing, holding, Held}
 use Rattle.board.specs.Lending.{LendsRows}
 
 no_rows : (rows : List Constraint) → length rows ≡ 0 → rows ≡ []

@@ -1,5 +1,5 @@
 -- Loading step by step on the plain ledger, as the board's calls leave it.
-use Rattle.std.proofs.Common.{◌≡◌, ℕ, ◌+◌, ◌-◌, ◌*◌, Bool, true, false, cond, List, length, IfOk, Some, None, Ok, Err, Result, sym, refl, ap, ◌∙◌, arith}
+use Rattle.std.proofs.Common.{◌≡◌, ℕ, ◌+◌, ◌*◌, Bool, true, false, cond, List, length, IfOk, Some, None, Ok, Err, Result, sym, refl, ap, ◌∙◌, arith}
 use Rattle.timetable.specs.declared.Addition.{Addition}
 use Rattle.board_file.specs.declared.FrameFault.{FrameFault}
 use Rattle.board_file.specs.declared.RecordFault.{RecordFault}

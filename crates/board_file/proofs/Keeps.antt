@@ -1,5 +1,5 @@
 -- What holds of the state that a file opens, and stays through each addition, holds of the state that the file leaves.
-use Rattle.std.proofs.Common.{◌≡◌, ℕ, zero, suc, ◌+◌, List, length, IfOk, Some, None, Ok, Err, Option, Result, refl}
+use Rattle.std.proofs.Common.{ℕ, zero, suc, ◌+◌, List, length, IfOk, Some, None, Ok, Err, Option, Result}
 use Rattle.timetable.specs.declared.Addition.{Addition}
 use Rattle.board_file.specs.declared.FrameFault.{FrameFault}
 use Rattle.board_file.specs.declared.RecordFault.{RecordFault}
@@ -9,7 +9,7 @@ use Rattle.board_file.specs.declared.Entry.{Entry}
 use Rattle.board_file.specs.declared.Entry.TheVariants.{Add, End}
 use Rattle.board_file.specs.Frames.{end_at}
 use Rattle.board_file.specs.Records.{opening_at, departures_at, entry_at}
-use Rattle.board_file.specs.Loading.{then_read, then_perform, then_judged, then_end, after_entry, entries_from, after_departures, after_opening, load_file}
+use Rattle.board_file.specs.Loading.{then_read, then_perform, then_judged, then_end, after_entry, entries_from, load_file}
 
 module _ {S F : Type 0} (P : S → Type 0) where
   read_keeps : {X : Type 0} (r : Result X RecordFault) (next : X → Result S (LoadFault F)) → ((x : X) → IfOk (next x) P) → IfOk (then_read r next) P

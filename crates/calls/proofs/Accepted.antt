@@ -1,18 +1,17 @@
 -- What an accepted change says of the row that it changes, and which rows of a ledger are suspended after each call.
-use Rattle.std.proofs.Common.{◌≡◌, ℕ, zero, suc, ◌+◌, ◌<◌, ◌≤◌, Bool, true, false, cond, ◌&&◌, eqb, ltb, List, [], ◌∷◌, ◌++◌, length, Some, None, Option, unwrap_or, sym, refl, ap, ◌∙◌, subst, arith, ltb-true, eqb-true}
+use Rattle.std.proofs.Common.{◌≡◌, ℕ, ◌<◌, ◌≤◌, Bool, true, false, ◌&&◌, eqb, ltb, List, length, None, Option, sym, refl, ap, ◌∙◌, arith, ltb-true, eqb-true}
 use borrow.Author.Tests.{clash}
 use Rattle.std.proofs.lemmas.Bool.Decides.{nat_tests}
-use Rattle.faults.specs.Causes.{unless}
 use Rattle.faults.proofs.Refusals.{unless_none}
 use Rattle.runs.proofs.Searches.{and_first, and_second}
 use Rattle.timetable.specs.declared.Constraint.{Constraint}
 use Rattle.timetable.specs.declared.State.{State}
 use Rattle.timetable.specs.declared.State.TheVariants.{Standing, Suspended, Withdrawn}
-use Rattle.timetable.specs.Words.{stands, suspended, suspendable, row_at, no_constraint}
+use Rattle.timetable.specs.Words.{stands, suspended, row_at}
 use Rattle.timetable.proofs.Changed.{row_past}
 use Rattle.board.specs.declared.fault.BoardFault.{BoardFault}
-use Rattle.board.specs.declared.fault.BoardFault.TheVariants.{Number, NotStanding, NotSuspendable, Ticket}
-use Rattle.board.specs.Ledger.{Held, Ledger, nothing, holding, standing_fault, suspend_fault, spend_fault}
+use Rattle.board.specs.declared.fault.BoardFault.TheVariants.{Number, NotStanding, Ticket}
+use Rattle.board.specs.Ledger.{Held, holding, standing_fault, suspend_fault, spend_fault}
 
 -- the constraint of a number stands
 pub record StandsAt (rows : List Constraint) (k : ℕ) : Type 0 where

@@ -1,6 +1,6 @@
 -- How many constraints are suspended after each call: one more by an accepted suspension, one less by an accepted restoration or dismissal, and
 -- as many as before by every other call. A loaded board has none.
-use Rattle.std.proofs.Common.{◌≡◌, ℕ, zero, suc, ◌+◌, ◌<◌, true, false, cond, ◌&&◌, List, [], ◌∷◌, ◌++◌, length, IfOk, Some, None, Ok, Err, vec_items, Option, Result, unwrap_or, sym, refl, ap, ◌∙◌, arith}
+use Rattle.std.proofs.Common.{◌≡◌, ℕ, zero, suc, ◌+◌, ◌<◌, false, cond, ◌&&◌, List, [], ◌∷◌, ◌++◌, length, IfOk, Some, None, Ok, Err, vec_items, Option, Result, unwrap_or, sym, refl, ap, ◌∙◌, arith}
 use Rattle.std.specs.Option.{option_map}
 use Rattle.timetable.specs.declared.Addition.{Addition}
 use Rattle.timetable.specs.declared.Constraint.{Constraint}
@@ -16,17 +16,15 @@ use Rattle.board_file.specs.Loading.{and_then}
 use Rattle.board_file.proofs.Keeps.{load_keeps}
 use Rattle.board.specs.declared.fault.BoardFault.{BoardFault}
 use Rattle.board.specs.Ledger.{Held, Ledger, nothing, holding, open_fault, opened_as, unless_refused, open_after, constraint_of, add_fault, grown, with_row, changed_at, retime_fault, withdraw_fault, suspend_fault, mark_of, spend_fault}
-use Rattle.board.specs.Loads.{unless_fault as held_unless, judged_at_opening, opened_by, performed_by, load_held, loaded_ledger, load_fault, load_after}
+use Rattle.board.specs.Loads.{unless_fault as held_unless, judged_at_opening, opened_by, performed_by, load_held, loaded_ledger, load_after}
 use Rattle.calls.specs.declared.Call.{Call}
 use Rattle.calls.specs.declared.Call.TheVariants as call
-use Rattle.calls.specs.declared.CallFault.{CallFault}
 use Rattle.calls.specs.declared.CallFault.TheVariants as fault
-use Rattle.calls.specs.declared.Reply.{Reply}
 use Rattle.calls.specs.declared.Reply.TheVariants as reply
 use Rattle.calls.specs.Replies.{accepted}
 use Rattle.calls.specs.Histories.{call_after, unless_fault, reply_to}
 use Rattle.calls.specs.Laws.{suspended_rows, now_suspended, is_suspension, is_restoration, is_dismissal}
-use Rattle.calls.proofs.Accepted.{StandsAt, SuspendedAt, suspend_accepted, spend_accepted}
+use Rattle.calls.proofs.Accepted.{suspend_accepted, spend_accepted}
 
 -- one row changed: what its state adds before and after
 count_changed : (f : Constraint → Constraint) (rows : List Constraint) (k : ℕ) → k < length rows → cond (suspended (row_at rows k).state) 1 0 + suspended_rows (changed f rows k) ≡ cond (suspended (f (row_at rows k)).state) 1 0 + suspended_rows rows

@@ -1,5 +1,5 @@
 -- What holds of every list of calls, by induction on the list from what holds of one call.
-use Rattle.std.proofs.Common.{◌≡◌, ℕ, ◌+◌, ◌<◌, true, false, cond, ◌&&◌, List, [], ◌∷◌, ◌++◌, length, get_or, take, Some, None, Ok, Err, vec_items, Option, Result, sym, refl, ap, ◌∙◌, append_assoc, arith}
+use Rattle.std.proofs.Common.{◌≡◌, ℕ, ◌+◌, ◌<◌, true, false, List, [], ◌∷◌, ◌++◌, length, get_or, take, Some, None, Ok, Err, vec_items, Option, Result, sym, refl, ap, ◌∙◌, append_assoc, arith}
 use borrow.Author.Tests.{clash}
 use Rattle.std.specs.Option.{option_map}
 use Rattle.std.proofs.lemmas.List.{take_more}
@@ -12,12 +12,11 @@ use Rattle.board.specs.Ledger.{Held, Ledger, nothing, holding, open_fault, opene
 use Rattle.board.specs.Loads.{load_held, loaded_ledger, load_fault, load_after}
 use Rattle.calls.specs.declared.Call.{Call}
 use Rattle.calls.specs.declared.Call.TheVariants as call
-use Rattle.calls.specs.declared.CallFault.{CallFault}
 use Rattle.calls.specs.declared.CallFault.TheVariants as fault
 use Rattle.calls.specs.declared.Reply.{Reply}
 use Rattle.calls.specs.declared.Reply.TheVariants as reply
 use Rattle.calls.specs.Replies.{accepted}
-use Rattle.calls.specs.Histories.{call_after, unless_fault, accepted_reply, reply_to, ledger_through, replies_to}
+use Rattle.calls.specs.Histories.{call_after, unless_fault, reply_to, ledger_through, replies_to}
 use Rattle.calls.specs.Laws.{now_suspended, is_suspension, is_restoration, is_dismissal, accepted_calls, HistoryLaw}
 use Rattle.calls.proofs.Balance.{balance_one}
 

@@ -1,5 +1,5 @@
 -- The plain ledger over calls: the fault that each call gets, what it replies and what it leaves; and the same of a list of calls in order.
-use Rattle.std.specs.Prelude.{ℕ, List, [], ◌∷◌, Some, None, vec_items, Option}
+use Rattle.std.specs.Prelude.{List, [], ◌∷◌, Some, None, vec_items, Option}
 use Rattle.std.specs.Option.{option_map}
 use Rattle.timetable.specs.declared.LedgerEvent.TheVariants as event
 use Rattle.board.specs.Ledger.{Ledger, open_fault, open_after, add_fault, add_after, next_number, retime_fault, retime_after, withdraw_fault, withdraw_after, suspend_fault, suspend_after, mark_of, spend_fault, spend_after}

@@ -3,11 +3,10 @@
 -- ended where the raising arc begins, with that arc behind it. And no run weighs more than the value where it ends, since along a
 -- run the values rise by at least each arc's weight. So the value of an event is the largest weight of the runs that end there. Where
 -- no circuit gains, the cell (i, j) is the least weight that no run from i to j exceeds, so the largest cell is that value too.
-use Rattle.std.proofs.Common.{◌≡◌, ℕ, zero, suc, ◌+◌, ◌<◌, ◌≤◌, Bool, true, false, cond, eqb, ◌⊎◌, List, [], ◌∷◌, ◌++◌, length, ℤ, pos, ◌+ℤ◌, ◌-ℤ◌, ◌*ℤ◌, ◌≤ℤ◌, ◌<ℤ◌, sym, refl, ap, ◌∙◌, subst, inl, inr, ⊎_elim, arith, eqb-true}
+use Rattle.std.proofs.Common.{◌≡◌, ℕ, zero, suc, ◌<◌, ◌≤◌, Bool, true, false, cond, eqb, ◌⊎◌, List, [], ◌∷◌, ◌++◌, length, ℤ, pos, ◌+ℤ◌, ◌-ℤ◌, ◌*ℤ◌, ◌≤ℤ◌, sym, refl, ap, ◌∙◌, subst, inl, inr, arith, eqb-true}
 use native.Mathlib.Decide.{ℕ_discrete}
 use lib.Signed.{le_z}
 use Rattle.std.specs.Int.{int_max}
-use Rattle.std.specs.List.{AllByRecursion as All}
 use Rattle.std.proofs.ByRecursion.{All-get_or}
 use Rattle.std.proofs.lemmas.Int.{ints, clamps}
 use Rattle.weights.specs.Kinds.{AtMost}
@@ -15,7 +14,7 @@ use Rattle.weights.specs.SecondsKind.{seconds_kind}
 use Rattle.weights.specs.declared.seconds.Seconds.{Seconds}
 use Rattle.weights.specs.declared.seconds.Seconds.TheVariants.{Of}
 use Rattle.weights.specs.SecondsLaws.{seconds_laws, seconds_idempotent}
-use Rattle.runs.specs.Nets.{Net, IsRun, IsCircuit, Within}
+use Rattle.runs.specs.Nets.{Net, IsRun, Within}
 use Rattle.runs.specs.Runs.{weigh, cell}
 use Rattle.runs.specs.Gaining.{NoCircuitGains, LeastAbove}
 use Rattle.runs.proofs.Cutting.{run_append}
@@ -28,7 +27,7 @@ use Rattle.circuits.specs.Searches.{SettledRow}
 use Rattle.circuits.specs.Walks.{NoneGains}
 use Rattle.circuits.specs.Ratios.{weight_of}
 use Rattle.circuits.specs.Potentials.{weight_at, largest_below, largest_cell, Holds, ArePotentials}
-use Rattle.circuits.proofs.Rises.{arc_inside, inside_arc, value_none, value_low, settled}
+use Rattle.circuits.proofs.Rises.{arc_inside, inside_arc, value_low, settled}
 use Rattle.circuits.proofs.Ratios.{goes_inside, sum_same, sum_push, row_none_gains}
 
 max_either : (x y : ℤ) → (int_max x y ≡ x) ⊎ (int_max x y ≡ y)

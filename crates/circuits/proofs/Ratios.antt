@@ -1,7 +1,7 @@
 -- Sums over circuits, and the measure of a rising ratio.
-use Rattle.std.proofs.Common.{◌≡◌, ℕ, zero, suc, ◌+◌, ◌-◌, ◌*◌, ◌/◌, ◌<◌, ◌≤◌, ◌⊎◌, List, [], ◌∷◌, ◌++◌, map, length, get_or, take, drop, set, replicate, ℤ, pos, negsuc, ◌+ℤ◌, ◌-ℤ◌, ◌*ℤ◌, neg_ℤ, nat_abs, ◌≤ℤ◌, ◌<ℤ◌, Some, None, Ok, Err, Option, sym, refl, ap, ◌∙◌, subst, inl, inr, ⊎_elim, mul-le-mul_right, mul_assoc, mul_comm, add-mul, mul-le-mul, mul-add, mul_right_comm, div-mul-le_self, le_of_mul-le-mul_right, arith, w64, SFits, to_z, of_z, below_more, MatchOption}
+use Rattle.std.proofs.Common.{◌≡◌, ℕ, zero, suc, ◌+◌, ◌-◌, ◌*◌, ◌/◌, ◌<◌, ◌≤◌, List, [], ◌∷◌, ◌++◌, length, take, set, replicate, ℤ, pos, negsuc, ◌+ℤ◌, ◌-ℤ◌, ◌*ℤ◌, neg_ℤ, nat_abs, ◌≤ℤ◌, ◌<ℤ◌, Some, None, Ok, Err, Option, sym, refl, ap, ◌∙◌, subst, mul-le-mul_right, mul_comm, add-mul, mul-le-mul, mul_right_comm, div-mul-le_self, le_of_mul-le-mul_right, arith, w64, SFits, to_z, of_z, below_more, MatchOption}
 use native.Mathlib.Decide.{ℕ_discrete, dec_lt}
-use Rattle.std.proofs.lemmas.List.{length-take, get_or-take, length-take-le, get_or-replicate, length-replicate, get_or_past, get_or-set_same, get_or-set_other}
+use Rattle.std.proofs.lemmas.List.{get_or-take, length-take-le, get_or-replicate, length-replicate, get_or_past, get_or-set_same, get_or-set_other}
 use Rattle.circuits.specs.Rounds.{at, WeightsFit}
 use lib.IntN.{*ℤ_comm}
 use borrow.Author.Differences.{up, down, sum_is_lem}
@@ -12,7 +12,7 @@ use Rattle.std.proofs.lemmas.Nat.{le-div, mul-le}
 use Rattle.circuits.specs.declared.Arc.{Arc}
 use Rattle.runs.specs.Nets.{IsRun}
 use Rattle.circuits.specs.Arcs.{no_arc, end_of, gain_of, cost_of, arcs_net, CircuitOf, sum, numbers_of, ArcsFit}
-use Rattle.circuits.specs.Ratios.{weight_of, OwnSums, BetterCircuit, NoneBetter, LargestRatio, GainsForNothing, Improved}
+use Rattle.circuits.specs.Ratios.{weight_of, OwnSums, BetterCircuit, NoneBetter, Improved}
 use Rattle.circuits.specs.Searches.{SettledRow}
 use Rattle.circuits.proofs.Rises.{arc_inside, none_gains}
 use Rattle.circuits.specs.declared.Circuit.{Circuit}

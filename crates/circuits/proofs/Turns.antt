@@ -1,8 +1,8 @@
 -- A list turned to begin at another place; a circuit so turned is a circuit with the same sums.
-use Rattle.std.proofs.Common.{◌≡◌, ℕ, ◌+◌, ◌-◌, ◌<◌, ◌≤◌, ◌⊎◌, List, [], ◌∷◌, ◌++◌, length, get_or, take, drop, set, ℤ, ◌+ℤ◌, sym, refl, ap, ◌∙◌, subst, inl, inr, arith}
+use Rattle.std.proofs.Common.{◌≡◌, ℕ, ◌+◌, ◌-◌, ◌<◌, ◌≤◌, ◌⊎◌, List, [], ◌∷◌, ◌++◌, length, get_or, take, drop, set, ℤ, ◌+ℤ◌, sym, ap, ◌∙◌, subst, inl, inr, arith}
 use Rattle.std.specs.List.{AllByRecursion as All}
 use Rattle.std.proofs.ByRecursion.{All-append, All-take, All-drop}
-use Rattle.std.proofs.lemmas.List.{take-append-drop, length-append, length-drop, length-take, length-take-le, get_or_append_left, get_or-append_right, get_or-drop, get_or-take, drop_more, take_more, take_more_set, take_all}
+use Rattle.std.proofs.lemmas.List.{take-append-drop, length-append, length-drop, length-take-le, get_or_append_left, get_or-append_right, get_or-drop, get_or-take, drop_more, take_more, take_more_set, take_all}
 use Rattle.std.proofs.lemmas.Int.{ints}
 use Rattle.runs.specs.Nets.{IsCircuit}
 use Rattle.runs.proofs.Turning.{turned_circuit}

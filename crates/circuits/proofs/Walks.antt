@@ -1,7 +1,6 @@
 -- The walk back, and the circuit in it.
-use Rattle.std.proofs.Common.{◌≡◌, ℕ, zero, suc, ◌+◌, ◌-◌, ◌*◌, ◌<◌, ◌≤◌, ◌⊎◌, List, [], ◌∷◌, ◌++◌, map, length, get_or, take, drop, set, replicate, ℤ, pos, negsuc, ◌+ℤ◌, nat_abs, ◌≤ℤ◌, ◌<ℤ◌, sym, refl, ap, ◌∙◌, subst, inl, inr, ⊎_elim, add-one, arith}
-use native.Mathlib.Decide.{ℕ_discrete, dec_lt}
-use Rattle.std.specs.List.{AllByRecursion as All}
+use Rattle.std.proofs.Common.{◌≡◌, ℕ, zero, suc, ◌+◌, ◌-◌, ◌<◌, ◌≤◌, List, [], ◌∷◌, map, length, take, drop, set, replicate, ℤ, pos, ◌+ℤ◌, ◌≤ℤ◌, ◌<ℤ◌, sym, refl, ap, ◌∙◌, subst, inl, inr, ⊎_elim, add-one, arith}
+use native.Mathlib.Decide.{ℕ_discrete}
 use Rattle.std.proofs.ByRecursion.{All-get_or}
 use Rattle.std.proofs.lemmas.Int.{ints}
 use Rattle.std.proofs.lemmas.List.{get_or-set_same, get_or-set_other, get_or-replicate, drop_more, length-map}
@@ -9,7 +8,7 @@ use Rattle.circuits.specs.declared.Arc.{Arc}
 use Rattle.runs.specs.Nets.{In, Distinct, IsRun}
 use Rattle.runs.proofs.Pigeonhole.{at_most}
 use Rattle.circuits.specs.Arcs.{no_arc, start_of, end_of, arcs_net, CircuitOf, sum, ArcsBelow}
-use Rattle.circuits.specs.Rounds.{rise, value, at, HoldsRound}
+use Rattle.circuits.specs.Rounds.{value, at}
 use Rattle.circuits.specs.Walks.{Raises, RaisesIn, nth, WalksBack, IsChain, ArePredecessors, IsRaised, OpenUpTo, ClosedPart, GainingCircuit}
 use Rattle.circuits.proofs.Rises.{inside_arc, rise_arc, rise_same, value_more, value_mono}
 

@@ -1,6 +1,6 @@
 -- Closing a session: the first ticket that it holds is that of the lowest suspended number; dismissing it leaves one suspended constraint
 -- less, and in the end all that was suspended is withdrawn.
-use Rattle.std.proofs.Common.{◌≡◌, ℕ, zero, suc, ◌+◌, ◌<◌, ◌≤◌, Bool, true, false, cond, ◌&&◌, eqb, ◌⊎◌, List, [], ◌∷◌, map, length, get_or, Some, None, Option, unwrap_or, sym, refl, ap, ◌∙◌, subst, inl, inr, ⊎_elim, arith}
+use Rattle.std.proofs.Common.{◌≡◌, ℕ, zero, suc, ◌<◌, ◌≤◌, Bool, true, false, cond, eqb, ◌⊎◌, List, [], ◌∷◌, map, length, get_or, Some, None, Option, unwrap_or, sym, refl, ap, ◌∙◌, inl, inr, ⊎_elim, arith}
 use borrow.Author.Tests.{clash}
 use Rattle.std.specs.Option.{option_map}
 use Rattle.std.proofs.lemmas.Bool.{cases_lt}
@@ -18,9 +18,8 @@ use Rattle.timetable.proofs.Changed.{row_past}
 use Rattle.board.specs.declared.Ticket.{Ticket}
 use Rattle.board.specs.declared.fault.BoardFault.{BoardFault}
 use Rattle.board.specs.declared.fault.BoardFault.TheVariants.{Ticket as TicketFault}
-use Rattle.board.specs.Ledger.{Held, Ledger, nothing, holding, mark_of, unless_refused, changed_at, spend_fault, spend_after}
+use Rattle.board.specs.Ledger.{Held, Ledger, nothing, holding, mark_of, unless_refused, changed_at, spend_fault}
 use Rattle.board.specs.Lending.{rows_of}
-use Rattle.calls.specs.declared.CallFault.{CallFault}
 use Rattle.calls.specs.declared.Call.TheVariants as call
 use Rattle.calls.specs.declared.CallFault.TheVariants as fault
 use Rattle.calls.specs.declared.Reply.TheVariants as reply

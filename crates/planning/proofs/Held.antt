@@ -1,6 +1,6 @@
 -- Which tickets are due after each call: a suspension makes one due, a restoration and a dismissal end one, and every other call leaves
 -- what is due.
-use Rattle.std.proofs.Common.{◌≡◌, ℕ, zero, suc, ◌+◌, ◌<◌, ◌≤◌, Bool, true, false, cond, ◌&&◌, eqb, List, [], ◌∷◌, ◌++◌, length, get_or, set, replicate, Some, None, Option, unwrap_or, sym, refl, ap, ◌∙◌, subst, ⊎_elim, arith, eqb-true}
+use Rattle.std.proofs.Common.{◌≡◌, ℕ, zero, suc, ◌<◌, ◌≤◌, Bool, true, false, cond, ◌&&◌, eqb, List, [], ◌∷◌, ◌++◌, length, get_or, set, replicate, Some, None, Option, unwrap_or, sym, refl, ap, ◌∙◌, subst, ⊎_elim, arith, eqb-true}
 use borrow.Author.Tests.{clash}
 use Rattle.std.proofs.lemmas.List.{get_or-set_same, get_or-set_other}
 use Rattle.std.proofs.lemmas.Bool.{cases_eq}
@@ -22,7 +22,7 @@ use Rattle.board.specs.Ledger.{Held, Ledger, nothing, holding, mark_of, open_fau
 use Rattle.board.specs.Lending.{rows_of}
 use Rattle.board.specs.Loads.{load_after}
 use Rattle.calls.specs.Laws.{suspended_rows, now_suspended}
-use Rattle.calls.proofs.Accepted.{suspend_accepted, spend_accepted, SuspendedAt}
+use Rattle.calls.proofs.Accepted.{suspend_accepted, spend_accepted}
 use Rattle.calls.proofs.Balance.{load_none}
 use Rattle.planning.specs.Tickets.{suspended_in, ticket_due, same_ticket, HoldsTickets, not_held}
 use Rattle.planning.specs.Places.{of_mark, ticket_of}

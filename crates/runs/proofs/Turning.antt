@@ -1,6 +1,6 @@
 -- A circuit may begin at any of its links: a circuit in two parts is one too when the second part comes first. The event between the
 -- parts is where the turned circuit begins and ends, and the same events are met once each.
-use Rattle.std.proofs.Common.{◌≡◌, ℕ, ◌+◌, ◌<◌, ◌⊎◌, List, [], ◌∷◌, ◌++◌, map, length, sym, refl, ◌∙◌, subst, inl, inr, ⊎_elim, arith}
+use Rattle.std.proofs.Common.{ℕ, ◌⊎◌, List, [], ◌∷◌, ◌++◌, map, sym, refl, subst, inl, inr, ⊎_elim, arith}
 use Rattle.std.proofs.lemmas.List.{length-append, map-append}
 use Rattle.runs.specs.Nets.{Net, In, Distinct, IsRun, IsCircuit}
 use Rattle.runs.proofs.Members.{in_left, in_right}

@@ -1,5 +1,5 @@
 -- Each form: its fields are read as the call exactly when they spell it.
-use Rattle.std.proofs.Common.{◌≡◌, ℕ, ◌<◌, Bool, true, false, cond, ltb, List, [], ◌∷◌, map, length, Some, None, codes, Option, sym, refl, ap, ◌∙◌, subst, ⊎_elim, arith}
+use Rattle.std.proofs.Common.{◌≡◌, ℕ, ◌<◌, cond, ltb, List, [], ◌∷◌, map, length, Some, None, codes, Option, sym, refl, ap, ◌∙◌, subst, ⊎_elim, arith}
 use Rattle.std.specs.Option.{option_map}
 use Rattle.std.specs.Str.{bytes_eq}
 use Rattle.std.proofs.lemmas.Slice.Eq.{bytes_eq-Decides}
@@ -7,9 +7,9 @@ use Rattle.std.proofs.lemmas.Bool.{cases_Bool, cond-true, cond-false, ltb-true, 
 use Rattle.timetable.specs.declared.Addition.{Addition}
 use Rattle.script.specs.Words.{only_word}
 use Rattle.script.specs.Numbers.{bind, number_in, first_number, numbers_in, hex_byte, hex_bytes}
-use Rattle.script.specs.Forms.{Form, opening, loading, adding, retiming, withdrawing, suspending, restoring, dismissing, letter_in, one_number, two_numbers, opening_in, file_in, loading_in, addition_in, adding_in, retiming_in, withdrawal_in, suspension_in, restoration_in, dismissal_in, form_in}
-use Rattle.script.specs.Spelling.{Size, bits_8, bits_16, bits_32, largest, Field, number, letter, file, keyword_of, file_fields, fields_of, SpeltBy, Spelt, Spells}
-use Rattle.script.proofs.SpeltWords.{bind_some, mapped_some, number_sound, number_complete, first_sound, first_complete, only_sound, last_complete, last_sound, one_sound, one_complete, two_sound, two_complete}
+use Rattle.script.specs.Forms.{Form, opening, loading, adding, retiming, withdrawing, suspending, restoring, dismissing, letter_in, one_number, two_numbers, opening_in, file_in, loading_in, addition_in, adding_in, form_in}
+use Rattle.script.specs.Spelling.{bits_8, bits_16, bits_32, largest, Field, number, letter, keyword_of, file_fields, fields_of, SpeltBy, Spelt, Spells}
+use Rattle.script.proofs.SpeltWords.{bind_some, mapped_some, number_sound, number_complete, first_sound, first_complete, last_complete, last_sound, one_sound, one_complete, two_sound, two_complete}
 
 -- Openings.
 

@@ -1,12 +1,12 @@
 -- The law of a line: which calls it makes, and that each call has a line.
-use Rattle.std.proofs.Common.{◌≡◌, ℕ, ◌<◌, Bool, true, false, cond, ◌⊎◌, List, [], ◌∷◌, ◌++◌, map, length, Some, None, codes, Option, sym, refl, ap, ◌∙◌, subst, inl, inr, ⊎_elim, arith}
+use Rattle.std.proofs.Common.{◌≡◌, ℕ, true, false, cond, ◌⊎◌, List, [], ◌∷◌, Some, None, codes, Option, sym, refl, ap, ◌∙◌, inl, inr, ⊎_elim, arith}
 use Rattle.std.specs.Str.{bytes_eq}
 use Rattle.std.proofs.lemmas.Slice.Eq.{bytes_eq-Decides}
 use Rattle.std.proofs.lemmas.Bool.{cases_Bool, cond-true, cond-false}
 use Rattle.script.specs.Words.{is_blank, begins_word, onto_first, words}
 use Rattle.script.specs.Forms.{Form, opening, loading, adding, retiming, withdrawing, suspending, restoring, dismissing, form_in}
-use Rattle.script.specs.Lines.{Reading, calls, takes_over, is_silent, is_unknown, reading_as, takeover_in, reading_in, is_comment, line_of}
-use Rattle.script.specs.Spelling.{keyword_of, fields_of, Spelt, Spells}
+use Rattle.script.specs.Lines.{Reading, calls, takes_over, is_silent, reading_as, takeover_in, reading_in, is_comment, line_of}
+use Rattle.script.specs.Spelling.{keyword_of, Spells}
 use Rattle.script.proofs.SpeltForms.{Full, form_sound, form_complete}
 
 -- each word of a text has a byte

@@ -1,14 +1,11 @@
 -- The words that spell a call are read as the call, and no others are.
-use Rattle.std.proofs.Common.{◌≡◌, ℕ, ◌<◌, ◌≤◌, Bool, true, false, cond, ◌&&◌, ltb, leb, List, [], ◌∷◌, map, length, Some, None, codes, Option, sym, refl, ap, ◌∙◌, subst, ⊎_elim, arith}
+use Rattle.std.proofs.Common.{◌≡◌, ℕ, ◌&&◌, leb, List, [], ◌∷◌, Some, None, Option, sym, refl, ap, ◌∙◌, subst, ⊎_elim, arith}
 use Rattle.std.specs.Option.{option_map}
-use Rattle.std.specs.Str.{bytes_eq}
-use Rattle.std.proofs.lemmas.Slice.Eq.{bytes_eq-Decides}
-use Rattle.std.proofs.lemmas.Bool.{cases_Bool, cond-true, cond-false, and_parts, and_from, leb-true, le-leb, ltb-true, lt-ltb, false≢true}
-use Rattle.timetable.specs.declared.Addition.{Addition}
+use Rattle.std.proofs.lemmas.Bool.{cases_Bool, cond-true, cond-false, and_parts, and_from, leb-true, le-leb}
 use Rattle.script.specs.Words.{only_word}
-use Rattle.script.specs.Numbers.{bind, is_numeral, spelt_after, number_in, first_number, numbers_in, hex_byte, hex_bytes}
-use Rattle.script.specs.Forms.{Form, opening, loading, adding, retiming, withdrawing, suspending, restoring, dismissing, letter_in, one_number, two_numbers, opening_in, file_in, loading_in, addition_in, adding_in, retiming_in, withdrawal_in, suspension_in, restoration_in, dismissal_in, form_in}
-use Rattle.script.specs.Spelling.{Size, bits_8, bits_16, bits_32, largest, Field, number, letter, file, keyword_of, file_fields, fields_of, SpeltBy, Spelt, Spells}
+use Rattle.script.specs.Numbers.{bind, is_numeral, spelt_after, number_in, first_number}
+use Rattle.script.specs.Forms.{one_number, two_numbers}
+use Rattle.script.specs.Spelling.{Size, bits_16, largest, Field, number, SpeltBy, Spelt}
 
 -- a value that follows of another is there only if the other is
 pub bind_some : {A B : Type 0} (o : Option A) (next : A → Option B) (y : B) → bind o next ≡ Some y → (x : A) × (o ≡ Some x) × (next x ≡ Some y)

@@ -1,15 +1,15 @@
 -- The text of a call is a line that makes it: its words are its keyword and the texts of its values, and those spell the values.
-use Rattle.std.proofs.Common.{◌≡◌, ℕ, ◌+◌, ◌-◌, ◌*◌, ◌/◌, ◌%◌, ◌^◌, ◌<◌, ◌≤◌, Bool, true, false, cond, ◌&&◌, eqb, ltb, leb, List, [], ◌∷◌, ◌++◌, map, length, Some, None, codes, decimal, Option, sym, refl, ap, ◌∙◌, ⊎_elim, arith, rules}
+use Rattle.std.proofs.Common.{◌≡◌, ℕ, ◌+◌, ◌-◌, ◌*◌, ◌/◌, ◌%◌, ◌^◌, ◌<◌, ◌≤◌, Bool, true, false, ◌&&◌, eqb, ltb, leb, List, [], ◌∷◌, ◌++◌, map, length, Some, decimal, Option, refl, ap, ◌∙◌, ⊎_elim, arith, rules}
 use Rattle.std.specs.Option.{option_map}
 use Rattle.std.specs.List.{flat_map, AllByRecursion as All}
 use Rattle.std.proofs.lemmas.Fmt.{digits_decimal, digits_value-decimal, decimal_nonempty}
 use Rattle.std.proofs.lemmas.Str.Parse.{IsNumeralModel, numerals_by_fold}
-use Rattle.std.proofs.lemmas.Bool.{cases_lt, cond-true, cond-false, and_parts, and_from, and_left, and_right, or_from, not-true, not_from_false, leb-true, le-leb, lt-leb, lt-ltb, le-ltb, ne_eqb, false≢true}
+use Rattle.std.proofs.lemmas.Bool.{cases_lt, cond-true, cond-false, and_parts, and_from, and_right, or_from, not-true, not_from_false, leb-true, le-leb, lt-leb, lt-ltb, le-ltb, ne_eqb, false≢true}
 use Rattle.script.specs.Words.{is_blank, in_word, begins_word, onto_first, words}
 use Rattle.script.specs.Numbers.{bind, is_digit, all_digits, is_numeral, spelt_after, hex_digit, hex_byte, hex_bytes}
 use Rattle.script.specs.Forms.{Form, opening, loading, adding, retiming, withdrawing, suspending, restoring, dismissing}
 use Rattle.script.specs.Lines.{calls, is_comment, line_of}
-use Rattle.script.specs.Spelling.{Size, bits_8, bits_16, bits_32, largest, Field, number, letter, file, keyword_of, fields_of, SpeltBy, Spelt, Spells, hex_letter, field_text, text_of, Writable}
+use Rattle.script.specs.Spelling.{Size, bits_8, bits_16, bits_32, largest, Field, number, letter, file, keyword_of, fields_of, SpeltBy, Spelt, hex_letter, field_text, text_of, Writable}
 use Rattle.script.proofs.Numerals.{numeral_of_digits}
 use Rattle.script.proofs.SpeltLines.{line_complete}
 

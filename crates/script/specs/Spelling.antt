@@ -1,7 +1,6 @@
 -- How a planner spells a call: its keyword, and a word for each of its values. What a line must be to make the call, and a line that does.
 use Rattle.std.specs.Prelude.{◌≡◌, ℕ, ◌+◌, ◌/◌, ◌%◌, ◌<◌, ◌≤◌, true, false, cond, ◌⊎◌, List, [], ◌∷◌, ◌++◌, map, length, Some, codes, decimal, nat_lt}
 use Rattle.std.specs.List.{flat_map, AllByRecursion as All}
-use Rattle.timetable.specs.declared.Addition.{Addition}
 use Rattle.script.specs.Words.{in_word, words}
 use Rattle.script.specs.Numbers.{is_numeral, spelt_after, hex_bytes}
 use Rattle.script.specs.Forms.{Form, opening, loading, adding, retiming, withdrawing, suspending, restoring, dismissing, largest_8, largest_16, largest_32}

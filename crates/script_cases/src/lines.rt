@@ -8,17 +8,17 @@ fn a_last_line_needs_no_end(rt: HostRuntime) -> Result<(), Fail> {
         assert!(rt; false);
         return Ok(());
     };
-    assert_eq!(rt; first, b"open");
+    assert_eq!(rt; first, b"open".as_slice());
     let Some((second, rest)) = next_line(rest) else {
         assert!(rt; false);
         return Ok(());
     };
-    assert_eq!(rt; second, b"");
+    assert_eq!(rt; second, b"".as_slice());
     let Some((third, rest)) = next_line(rest) else {
         assert!(rt; false);
         return Ok(());
     };
-    assert_eq!(rt; third, b"load");
+    assert_eq!(rt; third, b"load".as_slice());
     assert!(rt; next_line(rest).is_none());
     Ok(())
 }
@@ -29,7 +29,7 @@ fn an_end_is_no_line_of_its_own(rt: HostRuntime) -> Result<(), Fail> {
         assert!(rt; false);
         return Ok(());
     };
-    assert_eq!(rt; first, b"load\r");
+    assert_eq!(rt; first, b"load\r".as_slice());
     assert!(rt; next_line(rest).is_none());
     assert!(rt; next_line(b"").is_none());
     Ok(())

@@ -5,7 +5,7 @@ pub returns : goal.returns
 returns c =
     let script = c.args.script.now in
     record {
-      lines = c.first-line.ensures.lines;
-      shorter = c.first-line.ensures.shorter;
+      lines = c.first_line.ensures.lines;
+      shorter = c.first_line.ensures.shorter;
       law = record { whole = script_whole script; plain = script_plain script };
     }

@@ -6,6 +6,6 @@ pub returns : goal.returns
 returns c =
     let line = c.args.line.now in
     record {
-      reply = c.line-of.ensures;
+      reply = c.line_of.ensures;
       law = record { sound = line_sound line; complete = line_complete line; takeover = line_takes_over line; takeover_by = line_takes_over_by line; silent = line_silent line; silent_by = line_silent_by line; alike = line_alike line; written = text_makes };
     }

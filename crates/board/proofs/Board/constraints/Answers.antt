@@ -1,4 +1,4 @@
-use Rattle.std.proofs.Common.{vec_items, sym, subst, arith}
+use Rattle.std.proofs.Common.{sym, subst, arith}
 use Rattle.board.specs.Holding.{ledger_of, held_by}
 use Rattle.board.specs.Lending.{LendsRows}
 use Rattle.board.proofs.Lending.{lends}

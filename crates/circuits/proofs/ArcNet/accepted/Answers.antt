@@ -1,7 +1,6 @@
-use Rattle.std.proofs.Common.{◌≡◌, ℕ, ◌-◌, ◌≤◌, true, List, length, take, sym, ap, subst, arith}
+use Rattle.std.proofs.Common.{◌≡◌, ℕ, ◌-◌, take, sym, ap, subst, arith}
 use Rattle.std.proofs.lemmas.List.{length-take}
 use Rattle.circuits.specs.Arcs.{ArcsBelow, ArcsFit}
-use Rattle.circuits.specs.declared.Arc.{Arc}
 use Rattle.circuits.proofs.Nets.{ranges_below, ranges_fit, events_range}
 use Rattle.circuits.proofs.ArcNet.accepted.Goals as goal
 

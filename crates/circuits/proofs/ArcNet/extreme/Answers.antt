@@ -1,6 +1,6 @@
-use Rattle.std.proofs.Common.{◌≡◌, pos, ◌<ℤ◌, Ok, sym, ap, ◌∙◌, subst}
+use Rattle.std.proofs.Common.{Ok, subst}
 use Rattle.circuits.specs.Ratios.{Improved, LargestRatio, GainsForNothing}
-use Rattle.circuits.proofs.Nets.{still_own, still_largest, still_for_nothing}
+use Rattle.circuits.proofs.Nets.{still_largest, still_for_nothing}
 use Rattle.circuits.proofs.ArcNet.extreme.Goals as goal
 
 pub returns-in-Some : goal.returns-in-Some

@@ -1,6 +1,6 @@
-use Rattle.std.proofs.Common.{◌≡◌, ℕ, ◌-◌, ◌<◌, ◌≤◌, length, take, pos, ◌<ℤ◌, sym, refl, ap, ◌∙◌, subst, arith, rules}
+use Rattle.std.proofs.Common.{◌≡◌, ℕ, ◌-◌, ◌<◌, ◌≤◌, length, take, pos, ◌<ℤ◌, sym, ◌∙◌, subst, arith, rules}
 use Rattle.std.proofs.lemmas.List.{length-take-le, get_or-take}
-use Rattle.circuits.specs.Arcs.{ArcsBelow, CircuitOf, sum, numbers_of}
+use Rattle.circuits.specs.Arcs.{ArcsBelow, sum, numbers_of}
 use Rattle.circuits.specs.Potentials.{weight_at, ArePotentials, ShownGaining}
 use Rattle.circuits.specs.Rounds.{at}
 use Rattle.circuits.proofs.Nets.{still_sum}

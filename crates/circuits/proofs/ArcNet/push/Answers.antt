@@ -1,4 +1,4 @@
-use Rattle.std.proofs.Common.{◌≡◌, ℕ, ◌+◌, ◌<◌, ◌≤◌, true, ltb, [], ◌∷◌, ◌++◌, length, take, set, sym, refl, ap, ◌∙◌, subst, arith, rules, lt-ltb}
+use Rattle.std.proofs.Common.{◌≡◌, ◌+◌, ◌<◌, true, ltb, [], ◌∷◌, ◌++◌, length, take, set, sym, refl, subst, arith, rules, lt-ltb}
 use Rattle.std.proofs.lemmas.List.{take_more_set}
 use Rattle.runs.specs.Tables.{every}
 use Rattle.runs.proofs.Searches.{and_both}

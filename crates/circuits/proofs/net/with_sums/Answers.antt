@@ -1,4 +1,4 @@
-use Rattle.std.proofs.Common.{◌≡◌, ℕ, ◌<◌, ◌≤◌, length, sym, ap, ◌∙◌, subst, arith, rules}
+use Rattle.std.proofs.Common.{◌≡◌, ◌≤◌, length, arith, rules}
 use Rattle.circuits.specs.Arcs.{CircuitOf, numbers_of}
 use Rattle.circuits.proofs.Nets.{some_arcs, still_circuit}
 use Rattle.circuits.proofs.Ratios.{listed_known, own_sums}

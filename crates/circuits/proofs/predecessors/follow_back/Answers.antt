@@ -1,7 +1,7 @@
-use Rattle.std.proofs.Common.{◌≡◌, ℕ, ◌+◌, ◌-◌, ◌<◌, ◌≤◌, length, set, sym, refl, ap, ◌∙◌, subst, arith, rules}
+use Rattle.std.proofs.Common.{◌≡◌, ℕ, ◌+◌, ◌-◌, ◌<◌, length, sym, ap, ◌∙◌, subst, arith}
 use Rattle.std.proofs.ByRecursion.{All-get_or}
 use Rattle.std.proofs.lemmas.List.{length-set, get_or-set_same}
-use Rattle.circuits.specs.Arcs.{no_arc, start_of, end_of}
+use Rattle.circuits.specs.Arcs.{no_arc, start_of}
 use Rattle.circuits.specs.Walks.{IsChain, nth}
 use Rattle.circuits.proofs.Walks.{chain_more}
 use Rattle.circuits.proofs.predecessors.follow_back.Goals as goal

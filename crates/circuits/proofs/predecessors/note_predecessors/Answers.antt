@@ -1,7 +1,6 @@
-use Rattle.std.proofs.Common.{◌≡◌, ℕ, ◌+◌, ◌-◌, ◌<◌, ◌≤◌, length, sym, refl, ap, ◌∙◌, subst, arith, rules}
+use Rattle.std.proofs.Common.{sym, refl, subst, arith}
 use Rattle.std.proofs.ByRecursion.{All-get_or}
-use Rattle.std.proofs.lemmas.List.{length-set}
-use Rattle.circuits.specs.Arcs.{no_arc, end_of}
+use Rattle.circuits.specs.Arcs.{no_arc}
 use Rattle.circuits.specs.Walks.{ArePredecessors}
 use Rattle.circuits.proofs.Walks.{predecessors_more}
 use Rattle.circuits.proofs.predecessors.note_predecessors.Goals as goal

@@ -1,8 +1,8 @@
-use Rattle.std.proofs.Common.{◌≡◌, ℕ, ◌+◌, ◌-◌, ◌<◌, ◌≤◌, length, take, pos, ◌<ℤ◌, sym, refl, ap, ◌∙◌, subst, arith, rules}
+use Rattle.std.proofs.Common.{◌≡◌, ◌<◌, length, pos, ◌<ℤ◌, sym, subst, arith, rules}
 use Rattle.std.proofs.lemmas.Int.{ints}
 use Rattle.circuits.specs.Arcs.{CircuitOf, sum, numbers_of}
 use Rattle.circuits.specs.Rounds.{at}
-use Rattle.circuits.specs.Walks.{nth, GainingCircuit}
+use Rattle.circuits.specs.Walks.{nth}
 use Rattle.circuits.proofs.Rises.{below_wider}
 use Rattle.circuits.proofs.Walks.{closes_once, piece_circuit}
 use Rattle.circuits.proofs.Ratios.{listed_known}

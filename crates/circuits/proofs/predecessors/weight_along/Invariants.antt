@@ -1,4 +1,4 @@
-use Rattle.std.proofs.Common.{◌≡◌, ℕ, ◌*◌, ◌<◌, ◌≤◌, take, nat_abs}
+use Rattle.std.proofs.Common.{◌≡◌, ◌*◌, ◌≤◌, take, nat_abs}
 use Rattle.circuits.specs.Arcs.{sum}
 use Rattle.circuits.specs.Rounds.{at}
 use Rattle.circuits.proofs.predecessors.weight_along.Given as goal

@@ -1,9 +1,8 @@
-use Rattle.std.proofs.Common.{◌≡◌, ℕ, ◌+◌, ◌-◌, ◌<◌, ◌≤◌, length, take, pos, sym, refl, ap, ◌∙◌, subst, arith, w64, SFits, to_z, of_z, rules}
+use Rattle.std.proofs.Common.{◌≡◌, ℕ, ◌-◌, ◌<◌, ◌≤◌, length, take, pos, ◌∙◌, arith, rules}
 use Rattle.std.proofs.lemmas.List.{length-take-le, get_or-take}
-use Rattle.std.proofs.lemmas.Int.{ints}
 use Rattle.circuits.specs.Rounds.{at}
 use Rattle.circuits.specs.Ratios.{weight_of}
-use Rattle.circuits.proofs.Ratios.{row_none_gains, take_modest, weight_of_back, none_better, some_better, listed_known, make_better}
+use Rattle.circuits.proofs.Ratios.{row_none_gains, take_modest, weight_of_back, none_better, listed_known, make_better}
 use Rattle.circuits.proofs.ratio.better_circuit.Goals as goal
 
 pub gaining_circuit-requires : goal.gaining_circuit-requires

@@ -1,6 +1,6 @@
 use Rattle.std.proofs.Common.{◌≡◌, length, pos, ◌<ℤ◌, ap, arith, w64, of_z, rules}
 use Rattle.circuits.specs.Ratios.{BetterCircuit}
-use Rattle.circuits.proofs.Ratios.{best_fits, best_falls, best_last, cost_above, for_nothing, own_fair, back}
+use Rattle.circuits.proofs.Ratios.{best_fits, best_falls, best_last, cost_above, own_fair, back}
 use Rattle.circuits.proofs.ratio.improve.Goals as goal
 
 pub better_circuit-requires : goal.better_circuit-requires

@@ -1,4 +1,4 @@
-use Rattle.std.proofs.Common.{◌≡◌, ℕ, ◌*◌, ◌<◌, ◌≤◌, take, nat_abs}
+use Rattle.std.proofs.Common.{◌≡◌, ◌*◌, ◌≤◌, take, nat_abs}
 use Rattle.circuits.specs.Arcs.{gain_of, cost_of, sum}
 use Rattle.circuits.proofs.ratio.sums_along.Given as goal
 

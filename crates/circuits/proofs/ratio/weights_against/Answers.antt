@@ -1,8 +1,7 @@
-use Rattle.std.proofs.Common.{◌≡◌, ℕ, ◌+◌, ◌-◌, ◌<◌, ◌≤◌, length, take, pos, ◌*ℤ◌, sym, refl, ap, ◌∙◌, subst, arith, w64, SFits, to_z, of_z, rules}
+use Rattle.std.proofs.Common.{◌<◌, length, ◌*ℤ◌, sym, ◌∙◌, arith, w64, to_z, of_z, rules}
 use Rattle.std.proofs.ByRecursion.{All-get_or}
 use Rattle.std.proofs.lemmas.List.{length-set}
-use Rattle.std.proofs.lemmas.Int.{ints}
-use Rattle.circuits.specs.Arcs.{no_arc, gain_of, cost_of, sum}
+use Rattle.circuits.specs.Arcs.{no_arc, gain_of, cost_of}
 use Rattle.circuits.specs.Ratios.{weight_of}
 use Rattle.circuits.proofs.Ratios.{zeros_modest, writes_more, x_small, y_small, small_fits, sub_fits, weight_back, weight_small, weight_of_back}
 use Rattle.circuits.proofs.ratio.weights_against.Goals as goal

@@ -1,9 +1,9 @@
-use Rattle.std.proofs.Common.{◌≡◌, ℕ, ◌+◌, ◌<◌, ◌≤◌, length, ◌+ℤ◌, sym, refl, ap, ◌∙◌, subst, arith, w64, SFits, rules}
+use Rattle.std.proofs.Common.{◌+◌, ◌+ℤ◌, sym, refl, subst, arith}
 use Rattle.std.proofs.ByRecursion.{All-get_or}
-use Rattle.std.proofs.lemmas.Int.{ints, clamps}
-use Rattle.circuits.specs.Arcs.{no_arc, start_of, end_of}
+use Rattle.std.proofs.lemmas.Int.{ints}
+use Rattle.circuits.specs.Arcs.{no_arc, start_of}
 use Rattle.circuits.specs.Rounds.{at}
-use Rattle.circuits.proofs.Rises.{RaisedSoFar, from_ltZ, from_not_ltZ, held_none, held_up, held_stay, held_by, held_raiser}
+use Rattle.circuits.proofs.Rises.{RaisedSoFar, held_none, held_up, held_stay, held_by, held_raiser}
 use Rattle.circuits.proofs.rounds.raising_arc.Goals as goal
 use Rattle.circuits.proofs.rounds.raising_arc.Goals.{then-a-e+then-best-x, then-a-e+else-best-x, else-a-e}
 

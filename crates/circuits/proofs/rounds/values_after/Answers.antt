@@ -1,6 +1,5 @@
-use Rattle.std.proofs.Common.{◌≡◌, ℕ, ◌+◌, ◌<◌, ◌≤◌, pos, sym, refl, ap, ◌∙◌, arith, rules}
+use Rattle.std.proofs.Common.{pos, sym, ◌∙◌, arith, rules}
 use Rattle.std.proofs.lemmas.List.{get_or-replicate}
-use Rattle.circuits.specs.Rounds.{at}
 use Rattle.circuits.proofs.Rises.{value_none, row_roomy, row_more}
 use Rattle.circuits.proofs.rounds.values_after.Goals as goal
 

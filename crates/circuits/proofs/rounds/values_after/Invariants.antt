@@ -1,4 +1,4 @@
-use Rattle.std.proofs.Common.{◌≡◌, ℕ, ◌<◌, length}
+use Rattle.std.proofs.Common.{◌≡◌, length}
 use Rattle.circuits.specs.Rounds.{HoldsRound}
 use Rattle.circuits.proofs.rounds.values_after.Given as goal
 

@@ -1,4 +1,4 @@
-use Rattle.std.proofs.Common.{◌≡◌, ℕ, ◌+◌, ◌-◌, ◌<◌, ◌≤◌, length, pos, sym, refl, ap, ◌∙◌, subst, arith, rules}
+use Rattle.std.proofs.Common.{◌+◌, pos, sym, ◌∙◌, arith, rules}
 use Rattle.std.proofs.lemmas.List.{get_or-replicate}
 use Rattle.circuits.specs.Rounds.{at, HoldsRound}
 use Rattle.circuits.proofs.Rises.{below_wider, value_none, row_roomy, row_more, settled_holds, raised_more_event}

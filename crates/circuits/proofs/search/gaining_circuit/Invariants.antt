@@ -1,4 +1,4 @@
-use Rattle.std.proofs.Common.{◌≡◌, ℕ, ◌<◌, length}
+use Rattle.std.proofs.Common.{◌≡◌, ◌<◌, length}
 use Rattle.circuits.specs.Rounds.{at, HoldsRound}
 use Rattle.circuits.specs.Walks.{IsRaised, ArePredecessors}
 use Rattle.circuits.proofs.search.gaining_circuit.Given as goal

@@ -1,4 +1,4 @@
-use Rattle.std.proofs.Common.{◌≡◌, ℕ, ◌<◌, ◌≤◌}
+use Rattle.std.proofs.Common.{◌≡◌, ℕ, ◌<◌}
 use Rattle.circuits.specs.Arcs.{start_of, end_of}
 use Rattle.circuits.specs.Walks.{nth}
 use Rattle.circuits.proofs.walk.meeting_arc.Given as goal

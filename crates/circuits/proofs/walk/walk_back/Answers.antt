@@ -1,9 +1,9 @@
-use Rattle.std.proofs.Common.{◌≡◌, ℕ, ◌+◌, ◌-◌, ◌<◌, ◌≤◌, length, set, ◌<ℤ◌, sym, refl, ap, ◌∙◌, subst, arith, rules}
+use Rattle.std.proofs.Common.{◌≡◌, ℕ, ◌+◌, ◌-◌, ◌<◌, ◌≤◌, length, ◌<ℤ◌, sym, ap, ◌∙◌, subst, arith, rules}
 use Rattle.std.proofs.ByRecursion.{All-get_or}
 use Rattle.std.proofs.lemmas.Int.{ints}
 use Rattle.std.proofs.lemmas.List.{length-set, get_or-set_same}
-use Rattle.circuits.specs.Arcs.{no_arc, start_of, end_of}
-use Rattle.circuits.specs.Rounds.{at, rise, value}
+use Rattle.circuits.specs.Arcs.{no_arc, start_of}
+use Rattle.circuits.specs.Rounds.{at, value}
 use Rattle.circuits.specs.Walks.{RaisesIn, WalksBack, nth}
 use Rattle.circuits.proofs.Rises.{row_roomy, value_more, rise_same}
 use Rattle.circuits.proofs.Walks.{step_from, raised_back, walk_more}

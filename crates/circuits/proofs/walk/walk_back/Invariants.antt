@@ -1,4 +1,4 @@
-use Rattle.std.proofs.Common.{◌≡◌, ℕ, ◌<◌, ◌≤◌, length}
+use Rattle.std.proofs.Common.{◌≡◌, ◌<◌, ◌≤◌, length}
 use Rattle.circuits.specs.Arcs.{start_of}
 use Rattle.circuits.specs.Rounds.{at}
 use Rattle.circuits.specs.Walks.{IsRaised, WalksBack, nth}

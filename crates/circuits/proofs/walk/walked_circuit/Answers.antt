@@ -1,4 +1,4 @@
-use Rattle.std.proofs.Common.{◌≡◌, ℕ, ◌+◌, ◌-◌, ◌<◌, ◌≤◌, length, sym, refl, ap, ◌∙◌, subst, arith, rules}
+use Rattle.std.proofs.Common.{◌≡◌, length, sym, subst, arith, rules}
 use Rattle.circuits.specs.Rounds.{at}
 use Rattle.circuits.specs.Walks.{GainingCircuit}
 use Rattle.circuits.proofs.Rises.{below_wider}

@@ -1,4 +1,4 @@
-use Rattle.std.proofs.Common.{◌≡◌, ℕ, List, [], ◌∷◌, get_or, None, vec_items, Option, sym, ap, ◌∙◌, subst}
+use Rattle.std.proofs.Common.{◌≡◌, ℕ, List, [], ◌∷◌, get_or, None, vec_items, Option, sym, ◌∙◌, subst}
 use Rattle.board.specs.declared.Ticket.{Ticket}
 use Rattle.planning.proofs.Places.{front_empty, last_empty}
 use Rattle.planning.proofs.Held.{refused_new}

@@ -1,4 +1,4 @@
-use Rattle.std.proofs.Common.{ℕ, Some, None, sym, ap, ◌∙◌}
+use Rattle.std.proofs.Common.{ℕ, Some, None, ap, ◌∙◌}
 use Rattle.planning.specs.Places.{places_of}
 use Rattle.planning.proofs.Places.{first_step, first_none}
 use Rattle.planning.proofs.HeldTickets.lowest.Goals as goal

@@ -1,7 +1,4 @@
-use Rattle.std.proofs.Common.{ap, ◌∙◌}
-use Rattle.board.specs.Ledger.{Ledger}
 use Rattle.board.specs.Holding.{ledger_of}
-use Rattle.planning.specs.Tickets.{ticket_due}
 use Rattle.planning.specs.Places.{places_of}
 use Rattle.planning.proofs.Held.{holds_after, load_due, add_due, retime_due, withdraw_due}
 use Rattle.planning.proofs.Session.call.Goals as goal

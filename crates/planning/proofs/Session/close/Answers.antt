@@ -1,5 +1,4 @@
-use Rattle.std.proofs.Common.{◌≡◌, ◌≤◌, length, None, sym, ap, ◌∙◌, subst, arith}
-use Rattle.board.specs.Ledger.{Ledger}
+use Rattle.std.proofs.Common.{sym, ap, ◌∙◌, arith}
 use Rattle.board.specs.Holding.{held_by}
 use Rattle.planning.specs.Tickets.{lowest_ticket, closed}
 use Rattle.planning.specs.Places.{places_of}

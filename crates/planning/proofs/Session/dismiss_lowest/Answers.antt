@@ -1,4 +1,4 @@
-use Rattle.std.proofs.Common.{sym, ◌∙◌, arith, rules}
+use Rattle.std.proofs.Common.{◌∙◌, arith, rules}
 use Rattle.planning.specs.Places.{places_of}
 use Rattle.planning.specs.Sessions.{session_ledger}
 use Rattle.planning.proofs.Closing.{lowest_first}

@@ -1,4 +1,3 @@
-use Rattle.std.proofs.Common.{rules}
 use Rattle.planning.proofs.Held.{new_holds}
 use Rattle.planning.proofs.Session.new.Goals as goal
 

@@ -1,4 +1,4 @@
-use Rattle.std.proofs.Common.{◌≡◌, cond, set, Some, None, sym, ap, ◌∙◌, subst, arith, rules}
+use Rattle.std.proofs.Common.{◌≡◌, cond, set, Some, None, sym, ap, ◌∙◌, subst, arith}
 use Rattle.timetable.specs.declared.LedgerEvent.TheVariants.{Restore, Dismiss}
 use Rattle.board.specs.declared.fault.BoardFault.{BoardFault}
 use Rattle.board.specs.Ledger.{spend_fault, spend_after}

@@ -1,5 +1,4 @@
-use Rattle.std.proofs.Common.{◌≡◌, List, get_or, set, Some, None, vec_items, Option, sym, ap, ◌∙◌, subst, arith, rules}
-use Rattle.board.specs.declared.Ticket.{Ticket}
+use Rattle.std.proofs.Common.{◌≡◌, get_or, set, Some, None, sym, ap, ◌∙◌, subst, arith}
 use Rattle.board.specs.Holding.{held_by, ledger_of}
 use Rattle.planning.specs.Tickets.{HoldsTickets}
 use Rattle.planning.specs.Places.{places_of}

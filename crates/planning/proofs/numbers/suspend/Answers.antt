@@ -1,4 +1,4 @@
-use Rattle.std.proofs.Common.{sym, ap, ◌∙◌, arith, rules}
+use Rattle.std.proofs.Common.{ap, ◌∙◌, arith}
 use Rattle.board.specs.Ledger.{suspend_fault, suspend_after}
 use Rattle.board.specs.Holding.{held_by, ledger_of}
 use Rattle.planning.proofs.Held.{few_rows}

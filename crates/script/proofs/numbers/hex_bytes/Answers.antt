@@ -5,13 +5,13 @@ use Rattle.script.proofs.numbers.hex_bytes.Goals as goal
 pub returns-then-word-place-lt2 : goal.returns-then-word-place-lt2
 returns-then-word-place-lt2 c = hex_odd c.args.word.now (vec_items c.loop-place.bytes) c.loop-place.place c.loop-place.invariant.1 c.loop-place-test.true (omega arith)
 
-pub returns-in-default : goal.returns-in-default
-returns-in-default c = hex_garbled c.args.word.now (vec_items c.loop-place.bytes) c.loop-place.place c.loop-place.invariant.1 (omega arith) c.in-default.ensures
+pub returns-in_default : goal.returns-in_default
+returns-in_default c = hex_garbled c.args.word.now (vec_items c.loop-place.bytes) c.loop-place.place c.loop-place.invariant.1 (omega arith) c.in_default.ensures
 
 pub loop-place-preserved : goal.loop-place-preserved
 loop-place-preserved c = (
   omega arith,
-  hex_more c.args.word.now (vec_items c.loop-place.bytes) c.loop-place.place c.loop-place.invariant.1 c.in-Some.byte (vec_items c.push.new.self) (omega arith) c.in-Some.ensures c.in-ok-push.ensures.items,
+  hex_more c.args.word.now (vec_items c.loop-place.bytes) c.loop-place.place c.loop-place.invariant.1 c.in-Some.byte (vec_items c.push.new.self) (omega arith) c.in-Some.ensures c.in_ok-push.ensures.items,
 )
 
 pub returns : goal.returns

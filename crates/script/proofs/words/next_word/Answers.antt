@@ -5,21 +5,21 @@ use Rattle.script.specs.Words.{is_blank, in_word}
 use Rattle.script.proofs.Cuts.{cut_none, cut_word, cut_shorter}
 use Rattle.script.proofs.words.next_word.Goals as goal
 
-pub split-at-requires : goal.split-at-requires
-split-at-requires c = omega (arith, prefix_len-le-length is_blank c.args.text.now)
+pub split_at-requires : goal.split_at-requires
+split_at-requires c = omega (arith, prefix_len-le-length is_blank c.args.text.now)
 
-pub returns-then-is-empty : goal.returns-then-is-empty
-returns-then-is-empty c =
-    let none : length c.split-at.result.1.now ≡ 0 = eqb-true _ _ (sym c.if-is-empty.ensures) in
-    record { words = cut_none _ _ _ c.count-blanks.ensures c.split-at.ensures.back none; shorter = tt }
+pub returns-then-is_empty : goal.returns-then-is_empty
+returns-then-is_empty c =
+    let none : length c.split_at.result.1.now ≡ 0 = eqb-true _ _ (sym c.if-is_empty.ensures) in
+    record { words = cut_none _ _ _ c.count_blanks.ensures c.split_at.ensures.back none; shorter = tt }
 
-pub split-at-requires-2 : goal.split-at-requires-2
-split-at-requires-2 c = omega (arith, prefix_len-le-length in_word c.split-at.result.1.now)
+pub split_at-requires-2 : goal.split_at-requires-2
+split_at-requires-2 c = omega (arith, prefix_len-le-length in_word c.split_at.result.1.now)
 
 pub returns : goal.returns
 returns c =
-    let some : 0 < length c.split-at.result.1.now = omega (arith, eqb-false _ _ (sym c.if-is-empty.ensures)) in
+    let some : 0 < length c.split_at.result.1.now = omega (arith, eqb-false _ _ (sym c.if-is_empty.ensures)) in
     record {
-      words = cut_word _ _ _ c.count-blanks.ensures c.split-at.ensures.back _ _ _ some c.word-length.ensures c.split-at-2.ensures.front c.split-at-2.ensures.back;
-      shorter = cut_shorter _ _ _ c.count-blanks.ensures c.split-at.ensures.back _ _ some c.word-length.ensures c.split-at-2.ensures.back;
+      words = cut_word _ _ _ c.count_blanks.ensures c.split_at.ensures.back _ _ _ some c.word_length.ensures c.split_at-2.ensures.front c.split_at-2.ensures.back;
+      shorter = cut_shorter _ _ _ c.count_blanks.ensures c.split_at.ensures.back _ _ some c.word_length.ensures c.split_at-2.ensures.back;
     }
