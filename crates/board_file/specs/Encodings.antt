@@ -1,6 +1,6 @@
 -- The bytes that stand for a number, a field, a record and a whole file.
 use Rattle.std.specs.Prelude.{ℕ, ◌/◌, ◌%◌, ◌^◌, ◌<◌, List, [], ◌∷◌, ◌++◌, length, slice_index}
-use Rattle.std.specs.List.{flat_map, AllByRecursion as All}
+use Rattle.std.specs.List.{flat_map, AllByRecursion}
 use Rattle.timetable.specs.declared.Addition.{Addition}
 use Rattle.board_file.specs.declared.OpeningRecord.{OpeningRecord}
 
@@ -60,7 +60,7 @@ pub record Fits-opening (o : OpeningRecord) : Type 0 where
 
 -- each departure fits four bytes
 abbrev pub Fits-departures : List ℕ → Type 0
-Fits-departures departures = All (λ d. d < 2 ^ 32) departures
+Fits-departures departures = AllByRecursion (λ d. d < 2 ^ 32) departures
 
 -- each value of an addition fits its bytes
 pub record Fits-addition (a : Addition) : Type 0 where
@@ -73,4 +73,4 @@ pub record Fits-addition (a : Addition) : Type 0 where
 
 -- each value of each addition fits its bytes
 abbrev pub Fits-additions : List Addition → Type 0
-Fits-additions additions = All Fits-addition additions
+Fits-additions additions = AllByRecursion Fits-addition additions

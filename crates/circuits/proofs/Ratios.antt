@@ -5,7 +5,7 @@ use Rattle.std.proofs.lemmas.List.{get_or-take, length-take-le, get_or-replicate
 use Rattle.circuits.specs.Rounds.{at, WeightsFit}
 use lib.IntN.{*ℤ_comm}
 use borrow.Author.Differences.{up, down, sum_is_lem}
-use Rattle.std.specs.List.{AllByRecursion as All}
+use Rattle.std.specs.List.{AllByRecursion}
 use Rattle.std.proofs.ByRecursion.{All-get_or}
 use Rattle.std.proofs.lemmas.Int.{ints}
 use Rattle.std.proofs.lemmas.Nat.{le-div, mul-le}
@@ -42,11 +42,11 @@ natAbs_times (negsuc a) (negsuc b) = refl
 pub times_small : (x y : ℤ) (m n : ℕ) → nat_abs x ≤ m → nat_abs y ≤ n → nat_abs (x *ℤ y) ≤ m * n
 times_small x y m n h k = rw (natAbs_times x y) (mul-le-mul h k)
 
-pub goes_inside : (arcs : List Arc) (i j : ℕ) (r : List ℕ) → IsRun (arcs_net arcs) i j r → All (λ a. a < length arcs) r
+pub goes_inside : (arcs : List Arc) (i j : ℕ) (r : List ℕ) → IsRun (arcs_net arcs) i j r → AllByRecursion (λ a. a < length arcs) r
 goes_inside arcs i j [] g = tt
 goes_inside arcs i j (a ∷ r) g = (arc_inside arcs a g.0, goes_inside arcs (end_of arcs a) j r g.2)
 
-pub sum_same : (f g : ℕ → ℤ) (m : ℕ) → ((a : ℕ) → a < m → f a ≡ g a) → (r : List ℕ) → All (λ a. a < m) r → sum f r ≡ sum g r
+pub sum_same : (f g : ℕ → ℤ) (m : ℕ) → ((a : ℕ) → a < m → f a ≡ g a) → (r : List ℕ) → AllByRecursion (λ a. a < m) r → sum f r ≡ sum g r
 sum_same f g m e [] h = refl
 sum_same f g m e (a ∷ r) h = ap (λ y. y +ℤ sum f r) (e a h.0) ∙ ap (λ y. g a +ℤ y) (sum_same f g m e r h.1)
 
@@ -54,7 +54,7 @@ pub sum_push : (f : ℕ → ℤ) (r : List ℕ) (a : ℕ) → sum f (r ++ a ∷ 
 sum_push f [] a = omega (arith, ints)
 sum_push f (b ∷ r) a = omega (arith, ints, sum_push f r a)
 
-pub sum_small : (f : ℕ → ℤ) (m b : ℕ) → ((a : ℕ) → a < m → nat_abs (f a) ≤ b) → (r : List ℕ) → All (λ a. a < m) r → nat_abs (sum f r) ≤ length r * b
+pub sum_small : (f : ℕ → ℤ) (m b : ℕ) → ((a : ℕ) → a < m → nat_abs (f a) ≤ b) → (r : List ℕ) → AllByRecursion (λ a. a < m) r → nat_abs (sum f r) ≤ length r * b
 sum_small f m b h [] l = omega arith
 sum_small f m b h (a ∷ r) l = let e : suc (length r) * b ≡ b + length r * b = omega (arith, add-mul (length r) 1 b) in rw e (omega (arith, ints, h a l.0, sum_small f m b h r l.1))
 
@@ -222,7 +222,7 @@ cost_small arcs s a h = (All-get_or _ arcs a no_arc h s).2
 pub own_fair : (arcs : List Arc) (x : WeighedCircuit) → ArcsFit arcs → pos 0 <ℤ x.cost → length x.circuit.arcs ≡ 32 → OwnSums arcs x → RatioFits x.gain x.cost
 own_fair arcs x s some len o =
     let r : List ℕ = numbers_of x.circuit in
-    let inside : All (λ a. a < length arcs) r = goes_inside arcs o.circuit.event o.circuit.event r o.circuit.circuit.0 in
+    let inside : AllByRecursion (λ a. a < length arcs) r = goes_inside arcs o.circuit.event o.circuit.event r o.circuit.circuit.0 in
     let short : length r ≤ 32 = omega (arith, length-take-le x.circuit.len x.circuit.arcs (omega (arith, o.short)), o.short) in
     let g : nat_abs (sum (gain_of arcs) r) ≤ length r * 1073741824 = sum_small (gain_of arcs) (length arcs) 1073741824 (gain_small arcs s) r inside in
     let c : nat_abs (sum (cost_of arcs) r) ≤ length r * 7 = sum_small (cost_of arcs) (length arcs) 7 (cost_small arcs s) r inside in
@@ -237,7 +237,7 @@ pub own_sums : (arcs : List Arc) → ArcsFit arcs → (f : Circuit) → length f
     → OwnSums arcs (record { gain = to_z w64 (of_z w64 G); cost = to_z w64 (of_z w64 C); circuit = f })
 own_sums arcs s f len short G C eG eC c =
     let r : List ℕ = numbers_of f in
-    let inside : All (λ a. a < length arcs) r = goes_inside arcs c.event c.event r c.circuit.0 in
+    let inside : AllByRecursion (λ a. a < length arcs) r = goes_inside arcs c.event c.event r c.circuit.0 in
     let few : length r ≤ 32 = omega (arith, length-take-le f.len f.arcs (omega arith)) in
     let hG : nat_abs (sum (gain_of arcs) r) ≤ length r * 1073741824 = sum_small (gain_of arcs) (length arcs) 1073741824 (gain_small arcs s) r inside in
     let hC : nat_abs (sum (cost_of arcs) r) ≤ length r * 7 = sum_small (cost_of arcs) (length arcs) 7 (cost_small arcs s) r inside in
@@ -261,7 +261,7 @@ make_better arcs gain cost ws e s f len short G C eG eC g =
 cost_low : (arcs : List Arc) → ArcsFit arcs → (a : ℕ) → a < length arcs → pos 0 ≤ℤ cost_of arcs a
 cost_low arcs s a h = (All-get_or _ arcs a no_arc h s).1
 
-sum_low : (f : ℕ → ℤ) (m : ℕ) → ((a : ℕ) → a < m → pos 0 ≤ℤ f a) → (r : List ℕ) → All (λ a. a < m) r → pos 0 ≤ℤ sum f r
+sum_low : (f : ℕ → ℤ) (m : ℕ) → ((a : ℕ) → a < m → pos 0 ≤ℤ f a) → (r : List ℕ) → AllByRecursion (λ a. a < m) r → pos 0 ≤ℤ sum f r
 sum_low f m h [] l = omega (arith, ints)
 sum_low f m h (a ∷ r) l = omega (arith, ints, h a l.0, sum_low f m h r l.1)
 

@@ -1,6 +1,6 @@
 -- A list turned to begin at another place; a circuit so turned is a circuit with the same sums.
 use Rattle.std.proofs.Common.{◌≡◌, ℕ, ◌+◌, ◌-◌, ◌<◌, ◌≤◌, ◌⊎◌, List, [], ◌∷◌, ◌++◌, length, get_or, take, drop, set, ℤ, ◌+ℤ◌, sym, ap, ◌∙◌, subst, inl, inr, arith}
-use Rattle.std.specs.List.{AllByRecursion as All}
+use Rattle.std.specs.List.{AllByRecursion}
 use Rattle.std.proofs.ByRecursion.{All-append, All-take, All-drop}
 use Rattle.std.proofs.lemmas.List.{take-append-drop, length-append, length-drop, length-take-le, get_or_append_left, get_or-append_right, get_or-drop, get_or-take, drop_more, take_more, take_more_set, take_all}
 use Rattle.std.proofs.lemmas.Int.{ints}
@@ -27,7 +27,7 @@ module _ (p : ℕ) (xs : List ℕ) (inside : p < length xs) where
       ∙ ap (λ k. get_or (take p xs) k 0) rest
       ∙ get_or-take p xs (p + i - length xs) 0 (omega arith)
 
-  pub turned_lowest : All (λ b. get_or xs p 0 ≤ b) xs → BeginsLowest (turned_list p xs)
+  pub turned_lowest : AllByRecursion (λ b. get_or xs p 0 ≤ b) xs → BeginsLowest (turned_list p xs)
   turned_lowest low =
       let P : ℕ → Type 0 = λ b. get_or xs p 0 ≤ b in
       subst BeginsLowest (sym (ap (λ ys. ys ++ take p xs) (drop_more xs p 0 inside))) (All-append P (drop (p + 1) xs) (take p xs) (All-drop P (p + 1) xs low) (All-take P p xs low))

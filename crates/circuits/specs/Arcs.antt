@@ -1,6 +1,6 @@
 -- Arcs with a gain and a cost each, the net that they form, and what the numbers along a run add up to.
 use Rattle.std.specs.Prelude.{ℕ, ◌<◌, ◌≤◌, Bool, ◌&&◌, List, [], ◌∷◌, length, take, ℤ, pos, negsuc, ◌+ℤ◌, ◌≤ℤ◌, int_le, nat_lt, slice_index_or, unsigned_abs}
-use Rattle.std.specs.List.{range_with_len, AllByRecursion as All}
+use Rattle.std.specs.List.{range_with_len, AllByRecursion}
 use Rattle.runs.specs.Nets.{Net, IsCircuit}
 use Rattle.circuits.specs.declared.Arc.{Arc}
 use Rattle.circuits.specs.declared.Circuit.{Circuit}
@@ -39,7 +39,7 @@ sum f (a ∷ run) = f a +ℤ sum f run
 -- a list begins with the lowest of its numbers
 abbrev pub BeginsLowest : List ℕ → Type 0
 BeginsLowest [] = Unit {0}
-BeginsLowest (a ∷ run) = All (λ b. a ≤ b) run
+BeginsLowest (a ∷ run) = AllByRecursion (λ b. a ≤ b) run
 
 -- the arcs of a circuit that is held as an array
 abbrev pub numbers_of : Circuit → List ℕ
@@ -51,8 +51,8 @@ arc_in_range n a = (nat_lt a.from n && nat_lt a.to n) && ((int_le (negsuc 107374
 
 -- every arc goes between events below n
 abbrev pub ArcsBelow : ℕ → List Arc → Type 0
-ArcsBelow n arcs = All (λ a. (a.from < n) × (a.to < n)) arcs
+ArcsBelow n arcs = AllByRecursion (λ a. (a.from < n) × (a.to < n)) arcs
 
 -- every arc's numbers are small enough
 abbrev pub ArcsFit : List Arc → Type 0
-ArcsFit arcs = All (λ a. (unsigned_abs a.gain ≤ 1073741824) × (pos 0 ≤ℤ a.cost) × (unsigned_abs a.cost ≤ 7)) arcs
+ArcsFit arcs = AllByRecursion (λ a. (unsigned_abs a.gain ≤ 1073741824) × (pos 0 ≤ℤ a.cost) × (unsigned_abs a.cost ≤ 7)) arcs

@@ -1,6 +1,6 @@
 // A circuit turned so that it begins at its arc of the lowest number.
 ghost use Rattle.std.specs.Prelude.{◌≡◌, ◌<◌, ◌≤◌, ◌++◌, length, take, drop};
-ghost use Rattle.std.specs.List.{AllByRecursion as All};
+ghost use Rattle.std.specs.List.{AllByRecursion};
 ghost use Rattle.circuits.specs.Arcs.{numbers_of};
 ghost use Rattle.circuits.specs.Turns.{TurnsToLowest};
 ghost use Rattle.circuits.specs.Walks.{nth};
@@ -13,7 +13,7 @@ fn lowest_place(circuit: &Circuit) -> usize
     requires short { circuit.now.len ≤ 32 }
     ensures inside { result < circuit.now.len }
     ensures known { result < length (numbers_of circuit.now) }
-    ensures lowest { All (λ b. nth (numbers_of circuit.now) result ≤ b) (numbers_of circuit.now) }
+    ensures lowest { AllByRecursion (λ b. nth (numbers_of circuit.now) result ≤ b) (numbers_of circuit.now) }
 {
     let mut place = 0;
     for k in 1..circuit.len {

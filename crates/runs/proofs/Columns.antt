@@ -1,7 +1,7 @@
 -- Reads and writes of weights by their places, and of a column of the cells: cell (i, j) stands at i × n + j.
 use Rattle.std.proofs.Common.{◌≡◌, ℕ, zero, suc, ◌+◌, ◌*◌, ◌/◌, ◌%◌, ◌<◌, ◌≤◌, List, [], ◌∷◌, map, length, get_or, set, sym, ap, ◌∙◌, subst, arith, below_more}
 use native.Mathlib.Decide.{dec_lt, ℕ_discrete}
-use Rattle.std.specs.List.{AllByRecursion as All}
+use Rattle.std.specs.List.{AllByRecursion}
 use Rattle.std.proofs.lemmas.Nat.{mul-add-lt, div-mul-add, mod-mul-add}
 use Rattle.std.proofs.ByRecursion.{All-get_or}
 use Rattle.std.proofs.lemmas.List.{map-set, length-map, get_or-set_same, get_or-set_other, get_or-map, get_or_past}
@@ -20,13 +20,13 @@ column_same : (n r q i j : ℕ) → q < n → j < n → r * n + q ≡ i * n + j 
 column_same n r q i j p h e = sym (mod-mul-add r n q p) ∙ ap (λ y. y % n) e ∙ mod-mul-add i n j h
 
 -- where the k-th link begins and ends
-pub link_place : (n j k len : ℕ) (ls : List Link) → j < n → len ≡ n * n → k < length ls → All (λ l. (l.from < n) × (l.to < n)) ls → (get_or ls k no_link).from * n + j < len
+pub link_place : (n j k len : ℕ) (ls : List Link) → j < n → len ≡ n * n → k < length ls → AllByRecursion (λ l. (l.from < n) × (l.to < n)) ls → (get_or ls k no_link).from * n + j < len
 link_place n j k len ls hj square h within = subst (λ y. (get_or ls k no_link).from * n + j < y) (sym square) (cell_inside n (get_or ls k no_link).from j (All-get_or (λ l. (l.from < n) × (l.to < n)) ls k no_link h within).0 hj)
 
-pub link_end : (n k len : ℕ) (ls : List Link) → len ≡ n → k < length ls → All (λ l. (l.from < n) × (l.to < n)) ls → (get_or ls k no_link).to < len
+pub link_end : (n k len : ℕ) (ls : List Link) → len ≡ n → k < length ls → AllByRecursion (λ l. (l.from < n) × (l.to < n)) ls → (get_or ls k no_link).to < len
 link_end n k len ls side h within = subst (λ y. (get_or ls k no_link).to < y) (sym side) (All-get_or (λ l. (l.from < n) × (l.to < n)) ls k no_link h within).1
 
-pub all_read : {X : Type 0} (P : X → Type 0) (xs : List X) (k : ℕ) (y : X) → k < length xs → y ≡ get_or xs k y → All P xs → P y
+pub all_read : {X : Type 0} (P : X → Type 0) (xs : List X) (k : ℕ) (y : X) → k < length xs → y ≡ get_or xs k y → AllByRecursion P xs → P y
 all_read P xs k y h e a = subst P (sym e) (All-get_or P xs k y h a)
 
 module _ (K : Kind) {X : Type 0} (m : X → K.carrier) where
@@ -55,12 +55,12 @@ module _ (K : Kind) {X : Type 0} (m : X → K.carrier) where
   pub cleared_all : (xs : List X) → ((t : ℕ) → t < length xs → at K m xs t ≡ K.none) → (t : ℕ) → at K m xs t ≡ K.none
   cleared_all xs h t = elim (dec_lt t (length xs)) [ yes p ↦ h t p | no p ↦ at_past xs t (omega arith) ]
 
-  pub all_from_at : (P : K.carrier → Type 0) (xs : List X) → ((t : ℕ) → t < length xs → P (at K m xs t)) → All (λ w. P (m w)) xs
+  pub all_from_at : (P : K.carrier → Type 0) (xs : List X) → ((t : ℕ) → t < length xs → P (at K m xs t)) → AllByRecursion (λ w. P (m w)) xs
   all_from_at P [] h = tt
   all_from_at P (x ∷ xs) h = (h 0 (omega arith), all_from_at P xs (λ t l. h (suc t) (omega arith)))
 
   -- light weights are light at every place, since none spans nothing
-  pub light_at : Laws K → (xs : List X) → All (λ w. K.span (m w) ≤ 1) xs → (t : ℕ) → K.span (at K m xs t) ≤ 1
+  pub light_at : Laws K → (xs : List X) → AllByRecursion (λ w. K.span (m w) ≤ 1) xs → (t : ℕ) → K.span (at K m xs t) ≤ 1
   light_at L [] h t = omega (arith, L.span_none)
   light_at L (x ∷ xs) h zero = h.0
   light_at L (x ∷ xs) h (suc t) = light_at L xs h.1 t

@@ -1,7 +1,7 @@
 -- The enumeration has exactly the runs: each of its lists is a run, and each short enough run is in it. By induction on the
 -- number of links, over the first link.
 use Rattle.std.proofs.Common.{◌≡◌, ℕ, zero, suc, ◌<◌, cond, eqb, List, [], ◌∷◌, map, length, sym, refl, subst, inl, inr, arith, eq-eqb, eqb-true}
-use Rattle.std.specs.List.{AllByRecursion as All}
+use Rattle.std.specs.List.{AllByRecursion}
 use Rattle.std.proofs.ByRecursion.{All-append, All-map, All-weaker}
 use Rattle.runs.specs.Nets.{Net, In, IsRun}
 use Rattle.runs.specs.Runs.{standing, longer, runs_below, closed_runs}
@@ -26,22 +26,22 @@ module _ (net : Net) where
       (in_longer (λ e. runs_below net k e j) i l run net.links is.0 is.1 (in_runs k (net.to l) j run is.2 (omega arith)))
 
   -- what holds of each link from i in front of each run behind it
-  all_longer : (P : List ℕ → Type 0) (behind : ℕ → List (List ℕ)) (i : ℕ) (ls : List ℕ) → ((l : ℕ) → In l ls → net.from l ≡ i → All (λ run. P (l ∷ run)) (behind (net.to l))) → All P (longer net behind i ls)
+  all_longer : (P : List ℕ → Type 0) (behind : ℕ → List (List ℕ)) (i : ℕ) (ls : List ℕ) → ((l : ℕ) → In l ls → net.from l ≡ i → AllByRecursion (λ run. P (l ∷ run)) (behind (net.to l))) → AllByRecursion P (longer net behind i ls)
   all_longer P behind i [] f = tt
   all_longer P behind i (l ∷ ls) f =
       All-append P (cond (eqb (net.from l) i) (map (λ run. l ∷ run) (behind (net.to l))) []) (longer net behind i ls)
       (all_if P (map (λ run. l ∷ run) (behind (net.to l))) (eqb (net.from l) i) (λ t. All-map P (λ run. l ∷ run) (behind (net.to l)) (f l (inl refl) (eqb-true (net.from l) i t))))
       (all_longer P behind i ls (λ k h. f k (inr h)))
 
-  behind_are : (i j l : ℕ) (runs : List (List ℕ)) → All (IsRun net (net.to l) j) runs → In l net.links → net.from l ≡ i → All (λ run. IsRun net i j (l ∷ run)) runs
+  behind_are : (i j l : ℕ) (runs : List (List ℕ)) → AllByRecursion (IsRun net (net.to l) j) runs → In l net.links → net.from l ≡ i → AllByRecursion (λ run. IsRun net i j (l ∷ run)) runs
   behind_are i j l runs are h e = All-weaker (IsRun net (net.to l) j) (λ run. IsRun net i j (l ∷ run)) (λ run is. (h, e, is)) runs are
 
-  pub runs_are : (k i j : ℕ) → All (IsRun net i j) (runs_below net k i j)
+  pub runs_are : (k i j : ℕ) → AllByRecursion (IsRun net i j) (runs_below net k i j)
   runs_are zero i j = tt
   runs_are (suc k) i j =
       All-append (IsRun net i j) (standing i j) (longer net (λ e. runs_below net k e j) i net.links)
       (all_if (IsRun net i j) ([] ∷ []) (eqb i j) (λ t. (eqb-true i j t, tt)))
       (all_longer (IsRun net i j) (λ e. runs_below net k e j) i net.links (λ l. behind_are i j l (runs_below net k (net.to l) j) (runs_are k (net.to l) j)))
 
-  pub closed_are : (n j : ℕ) → All (IsRun net j j) (closed_runs net n j)
+  pub closed_are : (n j : ℕ) → AllByRecursion (IsRun net j j) (closed_runs net n j)
   closed_are n j = all_longer (IsRun net j j) (λ e. runs_below net n e j) j net.links (λ l. behind_are j j l (runs_below net n (net.to l) j) (runs_are n (net.to l) j))

@@ -1,7 +1,7 @@
 -- The loop over the links that extends runs by a first link: what is still to come is the choice over the links not yet seen.
 use Rattle.std.proofs.Common.{◌≡◌, ℕ, ◌+◌, ◌-◌, ◌*◌, ◌<◌, ◌≤◌, cond, eqb, List, [], ◌∷◌, length, get_or, drop, set, sym, ap, ◌∙◌, subst, arith, eq-eqb, ne_eqb}
 use native.Mathlib.Decide.{ℕ_discrete}
-use Rattle.std.specs.List.{range_with_len, AllByRecursion as All}
+use Rattle.std.specs.List.{range_with_len, AllByRecursion}
 use Rattle.std.proofs.lemmas.List.FromFn.{length-range_with_len, get_or-range_with_len}
 use Rattle.std.proofs.ByRecursion.{All-get_or}
 use Rattle.std.proofs.lemmas.List.{drop_more, drop_all}
@@ -16,7 +16,7 @@ use Rattle.runs.proofs.Columns.{link_place, link_end, all_read, at_read, all_fro
 use Rattle.runs.proofs.Members.{in_counting}
 use Rattle.runs.proofs.Order.{none_choice}
 
-pub net_within : (n : ℕ) (ls : List Link) → All (λ l. (l.from < n) × (l.to < n)) ls → Within n (net_of ls)
+pub net_within : (n : ℕ) (ls : List Link) → AllByRecursion (λ l. (l.from < n) × (l.to < n)) ls → Within n (net_of ls)
 net_within n ls h l m = All-get_or (λ k. (k.from < n) × (k.to < n)) ls l no_link (let lt : l < 0 + length ls = in_counting l 0 (length ls) m in omega arith) h
 
 -- the links from the k-th on
@@ -98,14 +98,14 @@ module _ (K : Kind) (L : Laws K) {X : Type 0} (m : X → K.carrier) (n j : ℕ) 
       (λ ne. column_set_other K m n j hj cells from i new (λ e. ne (sym e)))
 
 -- a column of cells leaves room for one more link
-pub column_room : (K : Kind) (L : Laws K) {X : Type 0} (m : X → K.carrier) (net : Net) (ws column : List X) (n k j : ℕ) → All (λ w. K.span (m w) ≤ 1) ws → length column ≡ n → k ≤ 32
-    → ((i : ℕ) → i < n → at K m column i ≡ cell K net (at K m ws) k i j) → All (λ w. K.span (m w) ≤ 31) column
+pub column_room : (K : Kind) (L : Laws K) {X : Type 0} (m : X → K.carrier) (net : Net) (ws column : List X) (n k j : ℕ) → AllByRecursion (λ w. K.span (m w) ≤ 1) ws → length column ≡ n → k ≤ 32
+    → ((i : ℕ) → i < n → at K m column i ≡ cell K net (at K m ws) k i j) → AllByRecursion (λ w. K.span (m w) ≤ 31) column
 column_room K L m net ws column n k j light side few is = all_from_at K m (λ v. K.span v ≤ 31) column (λ t h.
     let small : K.span (cell K net (at K m ws) k t j) ≤ k - 1 = cell_span K L net (at K m ws) (light_at K m L ws light) k t j in
     subst (λ v. K.span v ≤ 31) (sym (is t (omega arith))) (omega arith))
 
 -- what the chaining of the k-th link's weight with the weight behind it asks
-pub chain_room : (K : Kind) {X : Type 0} (m : X → K.carrier) (n k : ℕ) (ls : List Link) (ws behind : List X) (weight back : X) → Fit K m n ls ws → length behind ≡ n → All (λ w. K.span (m w) ≤ 31) behind → k < length ls
+pub chain_room : (K : Kind) {X : Type 0} (m : X → K.carrier) (n k : ℕ) (ls : List Link) (ws behind : List X) (weight back : X) → Fit K m n ls ws → length behind ≡ n → AllByRecursion (λ w. K.span (m w) ≤ 31) behind → k < length ls
     → weight ≡ get_or ws k weight → back ≡ get_or behind (get_or ls k no_link).to back → K.span (m weight) + K.span (m back) ≤ 32
 chain_room K m n k ls ws behind weight back fit side room h weight_is back_is =
     let inside : k < length ws = omega (arith, fit.paired) in

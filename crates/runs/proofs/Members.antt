@@ -2,7 +2,7 @@
 use Rattle.std.proofs.Common.{◌≡◌, ℕ, zero, suc, ◌+◌, ◌<◌, ◌≤◌, Bool, true, false, cond, List, [], ◌∷◌, ◌++◌, map, Decides, filter, sym, refl, ap, ◌∙◌, subst, inl, inr, ⊎_elim, arith}
 use native.Mathlib.Decide.{ℕ_discrete}
 use borrow.Author.Tests.{clash}
-use Rattle.std.specs.List.{range_with_len, AllByRecursion as All}
+use Rattle.std.specs.List.{range_with_len, AllByRecursion}
 use Rattle.runs.specs.Nets.{In}
 
 pub in_left : {X : Type 0} (x : X) (xs ys : List X) → In x xs → In x (xs ++ ys)
@@ -28,16 +28,16 @@ in? x (y ∷ xs) = go (ℕ_discrete x y) (in? x xs)
     go (no ne) (yes h) = yes (inr h)
     go (no ne) (no nh) = no (⊎_elim ne nh)
 
-pub all_in : {X : Type 0} (P : X → Type 0) (x : X) (xs : List X) → All P xs → In x xs → P x
+pub all_in : {X : Type 0} (P : X → Type 0) (x : X) (xs : List X) → AllByRecursion P xs → In x xs → P x
 all_in P x [] a h = absurd h
 all_in P x (y ∷ xs) a (inl e) = subst P (sym e) a.0
 all_in P x (y ∷ xs) a (inr h) = all_in P x xs a.1 h
 
-pub all_from_in : {X : Type 0} (P : X → Type 0) (xs : List X) → ((x : X) → In x xs → P x) → All P xs
+pub all_from_in : {X : Type 0} (P : X → Type 0) (xs : List X) → ((x : X) → In x xs → P x) → AllByRecursion P xs
 all_from_in P [] f = tt
 all_from_in P (x ∷ xs) f = (f x (inl refl), all_from_in P xs (λ y h. f y (inr h)))
 
-pub all_if : {X : Type 0} (P : X → Type 0) (xs : List X) (t : Bool) → (t ≡ true → All P xs) → All P (cond t xs [])
+pub all_if : {X : Type 0} (P : X → Type 0) (xs : List X) (t : Bool) → (t ≡ true → AllByRecursion P xs) → AllByRecursion P (cond t xs [])
 all_if P xs true f = f refl
 all_if P xs false f = tt
 

@@ -1,6 +1,6 @@
 -- The order of a kind of weight, and what it says of chained runs.
 use Rattle.std.proofs.Common.{◌≡◌, ℕ, List, [], ◌∷◌, ◌++◌, sym, ap, ◌∙◌, subst, inl, inr}
-use Rattle.std.specs.List.{AllByRecursion as All}
+use Rattle.std.specs.List.{AllByRecursion}
 use Rattle.weights.specs.Kinds.{Kind, Laws, Idempotent, AtMost}
 use Rattle.runs.specs.Nets.{In}
 use Rattle.runs.specs.Runs.{weigh, choice_over}
@@ -40,7 +40,7 @@ module _ (K : Kind) (L : Laws K) (I : Idempotent K) where
     choice_above run (r ∷ runs) (inr h) = at_most_trans (weigh K w run) (choice_over K w runs) (choice_over K w (r ∷ runs)) (choice_above run runs h) (second_at_most (weigh K w r) (choice_over K w runs))
 
     -- and the choice over all weighs at most what all weigh at most
-    pub choice_least : (runs : List (List ℕ)) (u : K.carrier) → All (λ run. AtMost K (weigh K w run) u) runs → AtMost K (choice_over K w runs) u
+    pub choice_least : (runs : List (List ℕ)) (u : K.carrier) → AllByRecursion (λ run. AtMost K (weigh K w run) u) runs → AtMost K (choice_over K w runs) u
     choice_least [] u h = none_choice K L u
     choice_least (run ∷ runs) u h = both_at_most (weigh K w run) (choice_over K w runs) u h.0 (choice_least runs u h.1)
 

@@ -2,7 +2,7 @@
 -- for the lowest number that passes.
 use Rattle.std.proofs.Common.{◌≡◌, ℕ, zero, suc, ◌+◌, ◌-◌, ◌<◌, ◌≤◌, Bool, true, false, cond, ◌&&◌, leb, List, length, get_or, drop, Some, None, Decides, Option, sym, refl, ap, ◌∙◌, ⊎_elim, add-one, arith}
 use borrow.Author.Tests.{clash}
-use Rattle.std.specs.List.{AllByRecursion as All}
+use Rattle.std.specs.List.{AllByRecursion}
 use Rattle.std.proofs.lemmas.List.{drop_more, drop_all}
 use Rattle.std.proofs.lemmas.Bool.Decides.{leb_tells}
 use Rattle.std.proofs.ByRecursion.{Decides-by_and}
@@ -42,7 +42,7 @@ module _ {X : Type 0} (passes : X → Bool) (xs : List X) where
   pub every_end : (i : ℕ) → length xs ≤ i → every passes (drop i xs) ≡ every passes xs → true ≡ every passes xs
   every_end i h rest = sym (ap (every passes) (drop_all i xs h)) ∙ rest
 
-pub every_says : {X : Type 0} (passes : X → Bool) (P : X → Type 0) → ((x : X) → Decides (passes x) (P x)) → (xs : List X) → Decides (every passes xs) (All P xs)
+pub every_says : {X : Type 0} (passes : X → Bool) (P : X → Type 0) → ((x : X) → Decides (passes x) (P x)) → (xs : List X) → Decides (every passes xs) (AllByRecursion P xs)
 every_says passes P says xs = Decides-by_and passes P (every passes) says refl (λ _ _. refl) xs
 
 module _ (passes : ℕ → Bool) where

@@ -7,7 +7,7 @@
 use Rattle.std.proofs.Common.{◌≡◌, ℕ, zero, suc, ◌<◌, ◌≤◌, Bool, true, false, not, ◌||◌, ◌⊎◌, List, [], ◌∷◌, ◌++◌, length, Decides, sym, refl, ap, ◌∙◌, subst, inl, inr, arith}
 use native.Mathlib.Decide.{dec_lt}
 use borrow.Author.Tests.{clash}
-use Rattle.std.specs.List.{AllByRecursion as All}
+use Rattle.std.specs.List.{AllByRecursion}
 use Rattle.std.proofs.ByRecursion.{All-weaker}
 use Rattle.std.proofs.lemmas.List.{length-map}
 use Rattle.std.proofs.lemmas.Bool.Decides.{Decides-not}
@@ -89,19 +89,19 @@ module _ (K : Kind) (L : Laws K) (I : Idempotent K) (net : Net) (w : ℕ → K.c
       go ih true says e = (run, inl refl, says refl)
       go ih false says e = let t = ih e in (t.0, inr t.1, t.2)
 
-  all_calm : (runs : List (List ℕ)) → some_gains K w runs ≡ false → All Calm runs
+  all_calm : (runs : List (List ℕ)) → some_gains K w runs ≡ false → AllByRecursion Calm runs
   all_calm [] e = tt
   all_calm (run ∷ runs) e = go (all_calm runs) (K.equal (K.choice (weigh K w run) K.start) K.start) (L.equal_says (K.choice (weigh K w run) K.start) K.start).0 e
     where
-      go : (some_gains K w runs ≡ false → All Calm runs) → (t : Bool) → (t ≡ true → Calm run) → (not t || some_gains K w runs) ≡ false → All Calm (run ∷ runs)
+      go : (some_gains K w runs ≡ false → AllByRecursion Calm runs) → (t : Bool) → (t ≡ true → Calm run) → (not t || some_gains K w runs) ≡ false → AllByRecursion Calm (run ∷ runs)
       go ih true says e = (says refl, ih e)
       go ih false says e = absurd (let z : ◌≡◌ {A = ℕ} 0 1 = cc in omega arith)
 
-  calm_none_gains : (runs : List (List ℕ)) → All Calm runs → some_gains K w runs ≡ false
+  calm_none_gains : (runs : List (List ℕ)) → AllByRecursion Calm runs → some_gains K w runs ≡ false
   calm_none_gains [] h = refl
   calm_none_gains (run ∷ runs) h = ap (λ t. not t || some_gains K w runs) ((L.equal_says (K.choice (weigh K w run) K.start) K.start).1 h.0) ∙ calm_none_gains runs h.1
 
-  over_calm : (runs : List (List ℕ)) → AtMost K (choice_over K w runs) K.start → All Calm runs
+  over_calm : (runs : List (List ℕ)) → AtMost K (choice_over K w runs) K.start → AllByRecursion Calm runs
   over_calm [] h = tt
   over_calm (run ∷ runs) h = (
     at_most_trans K L I (weigh K w run) (choice_over K w (run ∷ runs)) K.start (first_at_most K L I (weigh K w run) (choice_over K w runs)) h,
@@ -112,10 +112,10 @@ module _ (K : Kind) (L : Laws K) (I : Idempotent K) (net : Net) (w : ℕ → K.c
   pub gains_over : (runs : List (List ℕ)) (v : K.carrier) → v ≡ choice_over K w runs → gains K v ≡ some_gains K w runs
   gains_over runs v e = go (K.equal (K.choice v K.start) K.start) (some_gains K w runs) refl (L.equal_says (K.choice v K.start) K.start)
     where
-      calm : AtMost K v K.start → All Calm runs
+      calm : AtMost K v K.start → AllByRecursion Calm runs
       calm h = over_calm runs (subst (λ y. AtMost K y K.start) e h)
 
-      over : All Calm runs → AtMost K v K.start
+      over : AllByRecursion Calm runs → AtMost K v K.start
       over h = subst (λ y. AtMost K y K.start) (sym e) (choice_least K L I w runs K.start h)
 
       go : (t s : Bool) → some_gains K w runs ≡ s → Decides t (AtMost K v K.start) → not t ≡ s

@@ -1,6 +1,6 @@
 -- One round of a column: from what the runs behind each link weigh, what they weigh with it. For the private functions.
 use Rattle.std.specs.Prelude.{◌≡◌, ℕ, ◌+◌, ◌*◌, ◌<◌, ◌≤◌, cond, List, [], ◌∷◌, length, ◌==◌, ◌≢◌}
-use Rattle.std.specs.List.{AllByRecursion as All}
+use Rattle.std.specs.List.{AllByRecursion}
 use Rattle.weights.specs.Kinds.{Kind}
 use Rattle.runs.specs.declared.Link.{Link}
 use Rattle.runs.specs.Nets.{Net}
@@ -18,8 +18,8 @@ extend K net w x i (l ∷ ls) = K.choice (cond (net.from l == i) (K.chaining (w 
 -- links between n events, as many weights, each of span at most 1
 pub record Fit (K : Kind) {X : Type 0} (m : X → K.carrier) (n : ℕ) (ls : List Link) (ws : List X) : Type 0 where
   pub paired : length ls ≡ length ws
-  pub within : All (λ l. (l.from < n) × (l.to < n)) ls
-  pub light : All (λ w. K.span (m w) ≤ 1) ws
+  pub within : AllByRecursion (λ l. (l.from < n) × (l.to < n)) ls
+  pub light : AllByRecursion (λ w. K.span (m w) ≤ 1) ws
 
 -- the cells of the column j
 abbrev pub column_of : (K : Kind) {X : Type 0} → (X → K.carrier) → ℕ → ℕ → List X → ℕ → K.carrier

@@ -1,6 +1,6 @@
 // The table of runs, column by column: one text for every kind of weight.
 ghost use Rattle.std.specs.Prelude.{◌≡◌, ℕ, ◌+◌, ◌*◌, ◌<◌, ◌≤◌, length, None, Decides, nat_le};
-ghost use Rattle.std.specs.List.{AllByRecursion as All};
+ghost use Rattle.std.specs.List.{AllByRecursion};
 ghost use Rattle.weights.specs.Kinds.{gains};
 ghost use Rattle.runs.specs.Runs.{cell, closed_runs};
 ghost use Rattle.runs.specs.Gaining.{some_gains, gaining_event};
@@ -71,7 +71,7 @@ fn extend_column<W: Weight>(
     requires square { length cells.old ≡ n * n }
     requires side { length behind.now ≡ n }
     requires fit { Fit W.kind W.meaning n links.now weights.now }
-    requires room { All (λ w. W.kind.span (W.meaning w) ≤ 31) behind.now }
+    requires room { AllByRecursion (λ w. W.kind.span (W.meaning w) ≤ 31) behind.now }
     ensures column { (i : ℕ) → i < n → column_of W.kind W.meaning n j cells.new i ≡ W.kind.choice (column_of W.kind W.meaning n j cells.old i) (extend W.kind (net_of links.now) (at W.kind W.meaning weights.now) (at W.kind W.meaning behind.now) i (net_of links.now).links) }
     ensures others { OthersKept W.kind W.meaning n j cells.old cells.new }
 {
@@ -146,7 +146,7 @@ fn fill_column<W: Weight>(
 // The choice over the links from `j`, each chained with what stands for its second event.
 fn closed_choice<W: Weight>(j: usize, links: &[Link], weights: &[W], behind: &[W]) -> W
     requires fit { Fit W.kind W.meaning (length behind.now) links.now weights.now }
-    requires room { All (λ w. W.kind.span (W.meaning w) ≤ 31) behind.now }
+    requires room { AllByRecursion (λ w. W.kind.span (W.meaning w) ≤ 31) behind.now }
     ensures { W.meaning result ≡ extend W.kind (net_of links.now) (at W.kind W.meaning weights.now) (at W.kind W.meaning behind.now) j (net_of links.now).links }
 {
     let mut best = W::none();

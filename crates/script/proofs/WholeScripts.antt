@@ -1,7 +1,7 @@
 -- The lines of a script, put together again.
 use Rattle.std.proofs.Common.{◌≡◌, ℕ, true, List, [], ◌∷◌, ◌++◌, sym, refl, ap, ◌∙◌, subst, ⊎_elim}
 use Rattle.std.proofs.lemmas.Bool.{cases_Bool, cond-true, cond-false, eqb-true, not_from_false}
-use Rattle.std.specs.List.{flat_map, prefix_len, AllByRecursion as All}
+use Rattle.std.specs.List.{flat_map, prefix_len, AllByRecursion}
 use Rattle.script.specs.Words.{onto_first}
 use Rattle.script.specs.Lines.{ends_line, in_line, lines, with_end}
 use Rattle.script.proofs.FirstLines.{first_and_rest, lines_first}
@@ -31,7 +31,7 @@ script_whole (b ∷ d ∷ bytes) =
 
 -- each byte of a line is no end
 abbrev Plain : List (List ℕ) → Type 0
-Plain ls = All (λ line. All (λ b. in_line b ≡ true) line) ls
+Plain ls = AllByRecursion (λ line. AllByRecursion (λ b. in_line b ≡ true) line) ls
 
 onto_plain : (b : ℕ) (ls : List (List ℕ)) → in_line b ≡ true → Plain ls → Plain (onto_first b ls)
 onto_plain b [] e h = ((e, tt), tt)

@@ -1,7 +1,7 @@
 -- The text of a call is a line that makes it: its words are its keyword and the texts of its values, and those spell the values.
 use Rattle.std.proofs.Common.{◌≡◌, ℕ, ◌+◌, ◌-◌, ◌*◌, ◌/◌, ◌%◌, ◌^◌, ◌<◌, ◌≤◌, Bool, true, false, ◌&&◌, eqb, ltb, leb, List, [], ◌∷◌, ◌++◌, map, length, Some, decimal, Option, refl, ap, ◌∙◌, ⊎_elim, arith, rules}
 use Rattle.std.specs.Option.{option_map}
-use Rattle.std.specs.List.{flat_map, AllByRecursion as All}
+use Rattle.std.specs.List.{flat_map, AllByRecursion}
 use Rattle.std.proofs.lemmas.Fmt.{digits_decimal, digits_value-decimal, decimal_nonempty}
 use Rattle.std.proofs.lemmas.Str.Parse.{IsNumeralModel, numerals_by_fold}
 use Rattle.std.proofs.lemmas.Bool.{cases_lt, cond-true, cond-false, and_parts, and_from, and_right, or_from, not-true, not_from_false, leb-true, le-leb, lt-leb, lt-ltb, le-ltb, ne_eqb, false≢true}
@@ -98,7 +98,7 @@ byte_is b h =
     ∙ ap (λ (o : Option ℕ). option_map (λ l. b / 16 * 16 + l) o) (letter_is (b % 16) (omega arith))
     ∙ ap (λ (n : ℕ). Some n) e
 
-file_spelt : (bytes : List ℕ) → All (λ b. b < 256) bytes → hex_bytes (flat_map two_letters bytes) ≡ Some bytes
+file_spelt : (bytes : List ℕ) → AllByRecursion (λ b. b < 256) bytes → hex_bytes (flat_map two_letters bytes) ≡ Some bytes
 file_spelt [] h = refl
 file_spelt (b ∷ bytes) h =
     ap (λ (o : Option ℕ). bind o (λ n. option_map (λ bs. n ∷ bs) (hex_bytes (flat_map two_letters bytes)))) (byte_is b h.0)
@@ -132,12 +132,12 @@ no_word_yet : (fields : List Field) → begins_word (spaced fields) ≡ false
 no_word_yet [] = refl
 no_word_yet (field ∷ fields) = refl
 
-texts_are_words : (fields : List Field) → All Writable fields → words (spaced fields) ≡ map field_text fields
+texts_are_words : (fields : List Field) → AllByRecursion Writable fields → words (spaced fields) ≡ map field_text fields
 texts_are_words [] h = refl
 texts_are_words (field ∷ fields) h =
     word_then (field_text field) (spaced fields) (text_worded field h.0) (no_word_yet fields) ∙ ap (λ (ws : List (List ℕ)). field_text field ∷ ws) (texts_are_words fields h.1)
 
-texts_spelt : (fields : List Field) → All Writable fields → Spelt fields (map field_text fields)
+texts_spelt : (fields : List Field) → AllByRecursion Writable fields → Spelt fields (map field_text fields)
 texts_spelt [] h = tt
 texts_spelt (field ∷ fields) h = (text_spelt field h.0, texts_spelt fields h.1)
 
@@ -163,10 +163,10 @@ no_comment (suspending n) = refl
 no_comment (restoring mark n) = refl
 no_comment (dismissing mark n) = refl
 
-words_of_text : (form : Form) → All Writable (fields_of form) → words (text_of form) ≡ keyword_of form ∷ map field_text (fields_of form)
+words_of_text : (form : Form) → AllByRecursion Writable (fields_of form) → words (text_of form) ≡ keyword_of form ∷ map field_text (fields_of form)
 words_of_text form h =
     word_then (keyword_of form) (spaced (fields_of form)) (keyword_worded form) (no_word_yet (fields_of form)) ∙ ap (λ (ws : List (List ℕ)). keyword_of form ∷ ws) (texts_are_words (fields_of form) h)
 
 -- the text of a call makes it
-pub text_makes : (form : Form) → All Writable (fields_of form) → line_of (text_of form) ≡ calls form
+pub text_makes : (form : Form) → AllByRecursion Writable (fields_of form) → line_of (text_of form) ≡ calls form
 text_makes form h = line_complete (text_of form) form (no_comment form) (rw (words_of_text form h) (refl, texts_spelt (fields_of form) h))

@@ -1,7 +1,7 @@
 -- The lines of a script, and what each of them is.
 use Rattle.std.specs.Prelude.{◌≡◌, ℕ, Bool, true, false, cond, not, List, [], ◌∷◌, ◌++◌, Some, None, codes, Option, ◌==◌}
 use Rattle.std.specs.Borrow.{Bor}
-use Rattle.std.specs.List.{flat_map, AllByRecursion as All}
+use Rattle.std.specs.List.{flat_map, AllByRecursion}
 use Rattle.std.specs.Str.{bytes_eq}
 use Rattle.script.specs.declared.Line.{Line}
 use Rattle.script.specs.declared.Line.TheVariants as line
@@ -30,7 +30,7 @@ with_end (b ∷ d ∷ bytes) = b ∷ with_end (d ∷ bytes)
 -- what the lines of a script are: each with its end, one behind the other, they are the script; and no line has an end in it
 pub record LinesLaw (script : List ℕ) : Type 0 where
   pub whole : flat_map (λ line. line ++ (10 ∷ [])) (lines script) ≡ with_end script
-  pub plain : All (λ line. All (λ b. in_line b ≡ true) line) (lines script)
+  pub plain : AllByRecursion (λ line. AllByRecursion (λ b. in_line b ≡ true) line) (lines script)
 
 -- a line cut off and the script behind it, as lines; or none
 abbrev pub lines_cut : Option (Bor (List ℕ) × Bor (List ℕ)) → List (List ℕ)

@@ -1,6 +1,6 @@
 -- How a planner spells a call: its keyword, and a word for each of its values. What a line must be to make the call, and a line that does.
 use Rattle.std.specs.Prelude.{◌≡◌, ℕ, ◌+◌, ◌/◌, ◌%◌, ◌<◌, ◌≤◌, true, false, cond, ◌⊎◌, List, [], ◌∷◌, ◌++◌, map, length, Some, codes, decimal, nat_lt}
-use Rattle.std.specs.List.{flat_map, AllByRecursion as All}
+use Rattle.std.specs.List.{flat_map, AllByRecursion}
 use Rattle.script.specs.Words.{in_word, words}
 use Rattle.script.specs.Numbers.{is_numeral, spelt_after, hex_bytes}
 use Rattle.script.specs.Forms.{Form, opening, loading, adding, retiming, withdrawing, suspending, restoring, dismissing, largest_8, largest_16, largest_32}
@@ -87,7 +87,7 @@ text_of form = keyword_of form ++ flat_map (λ field. 32 ∷ field_text field) (
 abbrev pub Writable : Field → Type 0
 Writable (number size n) = n ≤ largest size
 Writable (letter b) = (in_word b ≡ true) × (b < 128)
-Writable (file bytes) = (0 < length bytes) × All (λ b. b < 256) bytes
+Writable (file bytes) = (0 < length bytes) × AllByRecursion (λ b. b < 256) bytes
 
 -- what a line is: it makes a call exactly when it is no comment and its words spell the call; it is the takeover exactly when it is no
 -- comment and that is its one word; it is silent exactly when it is a comment or has no word; so lines of the same words that are no
@@ -100,4 +100,4 @@ pub record LineLaw (line : List ℕ) : Type 0 where
   pub silent : line_of line ≡ is_silent → (is_comment line ≡ true) ⊎ (words line ≡ [])
   pub silent_by : (is_comment line ≡ true) ⊎ (words line ≡ []) → line_of line ≡ is_silent
   pub alike : (other : List ℕ) → is_comment line ≡ false → is_comment other ≡ false → words other ≡ words line → line_of other ≡ line_of line
-  pub written : (form : Form) → All Writable (fields_of form) → line_of (text_of form) ≡ calls form
+  pub written : (form : Form) → AllByRecursion Writable (fields_of form) → line_of (text_of form) ≡ calls form
