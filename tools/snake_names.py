@@ -4,16 +4,20 @@
 usage: python3 tools/snake_names.py        at the top of the repository, once, right after port.py
 
 A dash in a name that specs/ or proofs/ declare becomes an underscore; OTHER has the names for which that would not do. Names that
-Rattle makes (goals and steps) keep their dashes, and so do names whose first part is a type or a fact, as `All-append`.
+Rattle makes (goals and steps) keep their dashes, and so do lemmas whose name begins with a type or a fact, as `All-append`.
 """
 
 import glob
 import re
 import sys
 
-# names that would fall together with another one, or are facts
+# facts, which are spelled as types
 OTHER = {
     "Loads-encodings": "LoadsEncodings",
+    "Fits-opening": "FitsOpening",
+    "Fits-departures": "FitsDepartures",
+    "Fits-addition": "FitsAddition",
+    "Fits-additions": "FitsAdditions",
 }
 
 # names of a let, a λ or an import, outside comments
@@ -50,7 +54,7 @@ def main():
             names.add(name)
             if FIELD.match(line):
                 fields.add(name)
-    turned = {n: OTHER.get(n, n.replace("-", "_")) for n in names if "-" in n and n not in made and (n[0].islower() or n in OTHER)}
+    turned = {n: OTHER.get(n, n.replace("-", "_")) for n in names if "-" in n and n not in made and (n[0].islower() or n in OTHER)} | OTHER
     back = {}
     for old, new in sorted(turned.items()):
         for other in [m for m in names | made if m == new] + ([back[new]] if new in back else []):

@@ -5,7 +5,7 @@ use Rattle.std.specs.List.{flat_map}
 use Rattle.timetable.specs.declared.Addition.{Addition}
 use Rattle.board_file.specs.declared.OpeningRecord.{OpeningRecord}
 use Rattle.board_file.specs.Records.{opening_of, departures_of, addition_of}
-use Rattle.board_file.specs.Encodings.{be32, opening_body, addition_body, Bytes, Fits-opening, Fits-departures, Fits-addition}
+use Rattle.board_file.specs.Encodings.{be32, opening_body, addition_body, Bytes, FitsOpening, FitsDepartures, FitsAddition}
 use Rattle.board_file.proofs.Fields.{be16_two, be32_four, two_be16, four_be32}
 
 -- what holds of seven bytes written out holds of a list of seven
@@ -23,9 +23,9 @@ by_seven P all (a ∷ b ∷ c ∷ d ∷ e ∷ f ∷ g ∷ more ∷ rest) h = abs
 pub opening_written : (o : OpeningRecord) → opening_of (opening_body o) ≡ o
 opening_written o = rw (two_be16 o.mark, four_be32 o.period)
 
-pub opening_read : (body : List ℕ) → length body ≡ 7 → Bytes body → (opening_body (opening_of body) ≡ body) × Fits-opening (opening_of body)
+pub opening_read : (body : List ℕ) → length body ≡ 7 → Bytes body → (opening_body (opening_of body) ≡ body) × FitsOpening (opening_of body)
 opening_read =
-    by_seven (λ body. Bytes body → (opening_body (opening_of body) ≡ body) × Fits-opening (opening_of body))
+    by_seven (λ body. Bytes body → (opening_body (opening_of body) ≡ body) × FitsOpening (opening_of body))
     (λ a b c d e f g small.
     let hb : b < 256 = small 1 in
     let ha : a < 256 = small 0 in
@@ -38,9 +38,9 @@ opening_read =
 pub addition_written : (a : Addition) → addition_of (addition_body a) ≡ a
 addition_written a = rw (two_be16 a.time)
 
-pub addition_read : (body : List ℕ) → length body ≡ 7 → Bytes body → (addition_body (addition_of body) ≡ body) × Fits-addition (addition_of body)
+pub addition_read : (body : List ℕ) → length body ≡ 7 → Bytes body → (addition_body (addition_of body) ≡ body) × FitsAddition (addition_of body)
 addition_read =
-    by_seven (λ body. Bytes body → (addition_body (addition_of body) ≡ body) × Fits-addition (addition_of body))
+    by_seven (λ body. Bytes body → (addition_body (addition_of body) ≡ body) × FitsAddition (addition_of body))
     (λ a b c d e f g small.
     let hc : c < 256 = small 2 in
     let hd : d < 256 = small 3 in
@@ -56,7 +56,7 @@ length_departures_body [] = refl
 length_departures_body (d ∷ departures) = omega (arith, length_departures_body departures)
 
 -- By induction on how many there are: four bytes are those of the first departure, and the others are those of the rest.
-pub departures_read : (n : ℕ) (body : List ℕ) → length body ≡ 4 * n → Bytes body → (flat_map be32 (departures_of n body) ≡ body) × Fits-departures (departures_of n body)
+pub departures_read : (n : ℕ) (body : List ℕ) → length body ≡ 4 * n → Bytes body → (flat_map be32 (departures_of n body) ≡ body) × FitsDepartures (departures_of n body)
 departures_read zero body h small = (sym (nil_from_length body (omega arith)), tt)
 departures_read (suc n) [] h small = absurd (omega arith)
 departures_read (suc n) (a ∷ []) h small = absurd (omega arith)

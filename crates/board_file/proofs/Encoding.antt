@@ -12,7 +12,7 @@ use Rattle.board_file.specs.declared.Entry.{Entry}
 use Rattle.board_file.specs.declared.Entry.TheVariants.{Add, End}
 use Rattle.board_file.specs.Frames.{end_at}
 use Rattle.board_file.specs.Records.{opening_at, departures_at, entry_at}
-use Rattle.board_file.specs.Encodings.{encode_opening, encode_departures, encode_entry, encode_end, encode_entries, Bytes, Fits-additions}
+use Rattle.board_file.specs.Encodings.{encode_opening, encode_departures, encode_entry, encode_end, encode_entries, Bytes, FitsAdditions}
 use Rattle.board_file.specs.Loading.{then_read, then_perform, then_judged, then_end, and_then, performed, after_entry, entries_from, after_departures, after_opening, load_file, Accepted, LoadsEncodings}
 use Rattle.board_file.proofs.Steps.{entries_more, entries_ended, load_begun}
 use Rattle.board_file.proofs.Readings.{opening_stands, departures_stand, addition_stands, end_stands, opening_is_written, departures_are_written, addition_is_written, end_is_written}
@@ -29,7 +29,7 @@ module _ {S F : Type 0} (perform : S → Addition → Result S F) (bytes : List 
   -- the bytes from a place on are those of additions that fit, and that lead from one state to another
   pub record Entered (place : ℕ) (s last : S) : Type 0 where
     pub additions : List Addition
-    pub fits : Fits-additions additions
+    pub fits : FitsAdditions additions
     pub written : drop place bytes ≡ encode_entries additions
     pub ended : performed perform s additions ≡ Ok last
 

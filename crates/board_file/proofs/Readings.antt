@@ -10,7 +10,7 @@ use Rattle.board_file.specs.declared.OpeningRecord.{OpeningRecord}
 use Rattle.board_file.specs.declared.Entry.TheVariants.{Add, End}
 use Rattle.board_file.specs.Frames.{Framed, field_at}
 use Rattle.board_file.specs.Records.{opening_of, opening_in, opening_at, departures_of, departures_in, departures_at, addition_of, entry_in, entry_at}
-use Rattle.board_file.specs.Encodings.{be32, encode_field, opening_body, encode_opening, encode_departures, addition_body, encode_entry, encode_end, Bytes, Fits-opening, Fits-departures, Fits-addition}
+use Rattle.board_file.specs.Encodings.{be32, encode_field, opening_body, encode_opening, encode_departures, addition_body, encode_entry, encode_end, Bytes, FitsOpening, FitsDepartures, FitsAddition}
 use Rattle.board_file.proofs.Fields.{Stands, field_written, field_within, field_read}
 use Rattle.board_file.proofs.Departures.{length_departures}
 use Rattle.board_file.proofs.Bodies.{opening_written, opening_read, addition_written, addition_read, departures_written, length_departures_body, departures_read}
@@ -95,36 +95,36 @@ end_within bytes place h =
     let g = end_field (field_at bytes place) h in omega (arith, field_within bytes place g.0 g.1)
 
 -- an opening record that is read fits its bytes, which stand at the file's start
-pub opening_is_written : (bytes : List ℕ) (o : OpeningRecord) → Bytes bytes → opening_at bytes 0 ≡ Ok o → (bytes ≡ encode_opening o ++ drop 10 bytes) × Fits-opening o × (10 ≤ length bytes)
+pub opening_is_written : (bytes : List ℕ) (o : OpeningRecord) → Bytes bytes → opening_at bytes 0 ≡ Ok o → (bytes ≡ encode_opening o ++ drop 10 bytes) × FitsOpening o × (10 ≤ length bytes)
 opening_is_written bytes o small h =
     let g = opening_field (field_at bytes 0) o h in
     let stands = field_read bytes 0 g.0 small g.1 in
     let r = opening_read g.0.body g.3 stands.small in
     let w = stands_as bytes 0 g.0 1 (opening_body (opening_of g.0.body)) 10 stands g.2 r.0 refl in
-    subst (λ (x : OpeningRecord). (bytes ≡ encode_opening x ++ drop 10 bytes) × Fits-opening x × (10 ≤ length bytes)) g.4 (w.0, r.1, w.1)
+    subst (λ (x : OpeningRecord). (bytes ≡ encode_opening x ++ drop 10 bytes) × FitsOpening x × (10 ≤ length bytes)) g.4 (w.0, r.1, w.1)
 
 -- so many departures that are read fit their bytes, which stand at the place
 pub departures_are_written : (bytes : List ℕ) (place n : ℕ) (departures : List ℕ) → Bytes bytes → departures_at n bytes place ≡ Ok departures
-    → (drop place bytes ≡ encode_departures departures ++ drop (place + 3 + 4 * n) bytes) × Fits-departures departures × (length departures ≡ n) × (place + 3 + 4 * n ≤ length bytes)
+    → (drop place bytes ≡ encode_departures departures ++ drop (place + 3 + 4 * n) bytes) × FitsDepartures departures × (length departures ≡ n) × (place + 3 + 4 * n ≤ length bytes)
 departures_are_written bytes place n departures small h =
     let g = departures_field n (field_at bytes place) departures h in
     let stands = field_read bytes place g.0 small g.1 in
     let r = departures_read n g.0.body g.3 stands.small in
     let e : place + 3 + length (flat_map be32 (departures_of n g.0.body)) ≡ place + 3 + 4 * n = ap (λ m. place + 3 + m) (ap length r.0 ∙ g.3) in
     let w = stands_as bytes place g.0 2 (flat_map be32 (departures_of n g.0.body)) (place + 3 + 4 * n) stands g.2 r.0 e in
-    subst (λ (x : List ℕ). (drop place bytes ≡ encode_departures x ++ drop (place + 3 + 4 * n) bytes) × Fits-departures x × (length x ≡ n) × (place + 3 + 4 * n ≤ length bytes)) g.4
+    subst (λ (x : List ℕ). (drop place bytes ≡ encode_departures x ++ drop (place + 3 + 4 * n) bytes) × FitsDepartures x × (length x ≡ n) × (place + 3 + 4 * n ≤ length bytes)) g.4
     (w.0, r.1, length_departures n g.0.body, w.1)
 
 -- an addition that is read fits its bytes, which stand at the place
 pub addition_is_written : (bytes : List ℕ) (place : ℕ) (a : Addition) → Bytes bytes → entry_at bytes place ≡ Ok (Add a)
-    → (drop place bytes ≡ encode_entry a ++ drop (place + 10) bytes) × Fits-addition a × (place + 10 ≤ length bytes)
+    → (drop place bytes ≡ encode_entry a ++ drop (place + 10) bytes) × FitsAddition a × (place + 10 ≤ length bytes)
 addition_is_written bytes place a small h =
     let g = addition_field (field_at bytes place) a h in
     let stands = field_read bytes place g.0 small g.1 in
     let r = addition_read g.0.body g.3 stands.small in
     let e : place + 3 + 7 ≡ place + 10 = omega arith in
     let w = stands_as bytes place g.0 3 (addition_body (addition_of g.0.body)) (place + 10) stands g.2 r.0 e in
-    subst (λ (x : Addition). (drop place bytes ≡ encode_entry x ++ drop (place + 10) bytes) × Fits-addition x × (place + 10 ≤ length bytes)) g.4 (w.0, r.1, w.1)
+    subst (λ (x : Addition). (drop place bytes ≡ encode_entry x ++ drop (place + 10) bytes) × FitsAddition x × (place + 10 ≤ length bytes)) g.4 (w.0, r.1, w.1)
 
 -- an end that is read stands at the place as its bytes
 pub end_is_written : (bytes : List ℕ) (place : ℕ) → Bytes bytes → entry_at bytes place ≡ Ok End → (drop place bytes ≡ encode_end ++ drop (place + 3) bytes) × (place + 3 ≤ length bytes)

@@ -53,17 +53,17 @@ abbrev pub Bytes : List ℕ → Type 0
 Bytes bytes = (i : ℕ) → slice_index bytes i < 256
 
 -- each value of an opening record fits its bytes
-pub record Fits-opening (o : OpeningRecord) : Type 0 where
+pub record FitsOpening (o : OpeningRecord) : Type 0 where
   pub mark : o.mark < 65536
   pub events : o.events < 256
   pub period : o.period < 2 ^ 32
 
 -- each departure fits four bytes
-abbrev pub Fits-departures : List ℕ → Type 0
-Fits-departures departures = AllByRecursion (λ d. d < 2 ^ 32) departures
+abbrev pub FitsDepartures : List ℕ → Type 0
+FitsDepartures departures = AllByRecursion (λ d. d < 2 ^ 32) departures
 
 -- each value of an addition fits its bytes
-pub record Fits-addition (a : Addition) : Type 0 where
+pub record FitsAddition (a : Addition) : Type 0 where
   pub from : a.from < 256
   pub to : a.to < 256
   pub time : a.time < 65536
@@ -72,5 +72,5 @@ pub record Fits-addition (a : Addition) : Type 0 where
   pub letter : a.letter < 256
 
 -- each value of each addition fits its bytes
-abbrev pub Fits-additions : List Addition → Type 0
-Fits-additions additions = AllByRecursion Fits-addition additions
+abbrev pub FitsAdditions : List Addition → Type 0
+FitsAdditions additions = AllByRecursion FitsAddition additions

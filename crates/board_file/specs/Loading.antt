@@ -13,7 +13,7 @@ use Rattle.board_file.specs.declared.Entry.{Entry}
 use Rattle.board_file.specs.declared.Entry.TheVariants.{Add, End}
 use Rattle.board_file.specs.Frames.{end_at}
 use Rattle.board_file.specs.Records.{opening_at, departures_at, entry_at}
-use Rattle.board_file.specs.Encodings.{encode_file, Bytes, Fits-opening, Fits-departures, Fits-additions}
+use Rattle.board_file.specs.Encodings.{encode_file, Bytes, FitsOpening, FitsDepartures, FitsAdditions}
 
 -- go on with what a record gives, or stop at its fault
 abbrev pub then_read : {X S F : Type 0} → Result X RecordFault → (X → Result S (LoadFault F)) → Result S (LoadFault F)
@@ -75,9 +75,9 @@ module _ {S F : Type 0} (judge : OpeningRecord → Option F) (begin : OpeningRec
     pub departures : List ℕ
     pub additions : List Addition
     pub first : S
-    pub fits_opening : Fits-opening opening
-    pub fits_departures : Fits-departures departures
-    pub fits_additions : Fits-additions additions
+    pub fits_opening : FitsOpening opening
+    pub fits_departures : FitsDepartures departures
+    pub fits_additions : FitsAdditions additions
     pub counted : length departures ≡ opening.events
     pub encoded : bytes ≡ encode_file opening departures additions
     pub judged : judge opening ≡ None
