@@ -1,6 +1,7 @@
 -- An addition that passes every test is in range and keeps the board sound; and it closes a circuit exactly when the Days table
 -- says so.
-use Rattle.std.proofs.Common.{◌≡◌, ℕ, ◌<◌, ◌≤◌, Bool, true, false, cond, not, ◌&&◌, eqb, ltb, leb, ◌↔◌, List, [], ◌∷◌, ◌++◌, length, is_some, Some, None, Option, sym, refl, ap, ◌∙◌, arith}
+use Rattle.std.proofs.Common.{◌≡◌, ℕ, ◌<◌, ◌≤◌, Bool, true, false, not, ◌&&◌, eqb, ltb, leb, ◌↔◌, List, [], ◌∷◌, ◌++◌, length, is_some, Some, None, Option, sym, refl, ap, ◌∙◌, arith}
+use Rattle.std.specs.Option.{ForSome}
 use borrow.Author.Tests.{clash}
 use Rattle.std.proofs.lemmas.Bool.Decides.{nat_tests}
 use Rattle.faults.specs.Causes.{unless}
@@ -15,9 +16,11 @@ use Rattle.timetable.specs.declared.Constraint.{Constraint}
 use Rattle.timetable.specs.Words.{letter_of, free_net}
 use Rattle.board.specs.declared.fault.BoardFault.{BoardFault}
 use Rattle.board.specs.declared.fault.BoardFault.TheVariants.{Event, Time, Tokens, Days, Letter, Full, Circuit}
+use Rattle.board_file.specs.declared.OpeningRecord.{OpeningRecord}
+use Rattle.board.specs.Holding.{held_by, ledger_with}
 use Rattle.board.specs.Circuits.{NoFreeCircuit, days_between, closes_circuit, FreeCircuitThrough}
 use Rattle.board.specs.Invariant.{constraint_in_range, all_in_range}
-use Rattle.board.specs.Ledger.{Held, Ledger, nothing, holding, constraint_of, early_add_fault, add_fault, with_row, unless_refused, add_after, CircuitLaw}
+use Rattle.board.specs.Ledger.{Held, holding, constraint_of, early_add_fault, add_fault, CircuitLaw}
 use Rattle.board.proofs.FreeRuns.{between_run, run_between}
 use Rattle.board.proofs.FreeCircuits.{circuit_from_run, run_from_circuit, old_circuit}
 
@@ -141,16 +144,6 @@ law_held h a range e =
     let fault = circuit_fault (closes_circuit h.events h.rows a) in
     (λ refused. closes.0 (fault.0 (sym only ∙ refused)), λ through. only ∙ fault.1 (closes.1 through))
 
-pub circuit_law : (opened : Bool) (h : Held) (a : Addition) → all_in_range h.events h.rows ≡ true → CircuitLaw (cond opened (holding h) nothing) a (add_fault (cond opened (holding h) nothing) a)
-circuit_law true h a range = law_held h a range
-circuit_law false h a range = tt
-
--- what an addition is answered and leaves on an opened board, once the tests before the circuits passed
-module _ (l : Ledger) (h : Held) (a : Addition) (held : l ≡ holding h) (early : early_add_fault h.events (length h.rows) a None ≡ None) where
-  fault_is : (t : Bool) → closes_circuit h.events h.rows a ≡ t → add_fault l a ≡ unless (not t) Circuit None
-  fault_is t closes = ap (λ x. add_fault x a) held ∙ only_circuits h.events (length h.rows) a (unless (not (closes_circuit h.events h.rows a)) Circuit None) early ∙ ap (λ b. unless (not b) Circuit None) closes
-
-  pub circuit_refused : closes_circuit h.events h.rows a ≡ true → (Some Circuit ≡ add_fault l a) × (l ≡ add_after l a)
-  circuit_refused closes =
-      let fault : add_fault l a ≡ Some Circuit = fault_is true closes in
-      (sym fault, sym (ap (λ f. unless_refused f (with_row l (constraint_of a)) l) fault))
+pub circuit_law : (opening : Option OpeningRecord) (departures : List ℕ) (rows : List Constraint) (a : Addition) → ForSome opening (λ o. all_in_range o.events rows ≡ true) → CircuitLaw (ledger_with opening departures rows) a (add_fault (ledger_with opening departures rows) a)
+circuit_law (Some o) departures rows a range = law_held (held_by o departures rows) a (range o refl)
+circuit_law None departures rows a range = tt

@@ -1,10 +1,9 @@
 -- The table of runs in Days is never refused where its lists are in order: no weight spans anything, and none gains, since all
 -- seven days are at most all seven.
-use Rattle.std.proofs.Common.{◌≡◌, ℕ, zero, suc, ◌+◌, ◌*◌, ◌<◌, ◌≤◌, Bool, true, false, not, ◌&&◌, ◌||◌, ltb, List, [], ◌∷◌, map, length, get_or, set, None, Result, sym, refl, ap, ◌∙◌, subst, arith, below_more}
+use Rattle.std.proofs.Common.{◌≡◌, ℕ, zero, suc, ◌+◌, ◌*◌, ◌<◌, ◌≤◌, Bool, true, false, not, ◌&&◌, ◌||◌, ltb, List, [], ◌∷◌, map, length, get_or, None, Result, sym, refl, ap, ◌∙◌, subst, take, replicate, mul-le-mul, arith}
 use mathlib.Core.Path.{fun_ext}
 use native.Mathlib.Decide.{dec_lt}
-use Rattle.std.proofs.lemmas.List.FromFn.{fill_by_all}
-use Rattle.std.proofs.lemmas.List.{length-map, get_or-map, get_or_past, get_or_default, get_or-set_same, get_or-set_other}
+use Rattle.std.proofs.lemmas.List.{length-map, length-take-le, get_or-map, get_or_past}
 use Rattle.std.proofs.lemmas.Bool.Decides.{nat_tests}
 use Rattle.faults.specs.Causes.{unless}
 use Rattle.weights.specs.Kinds.{gains}
@@ -15,13 +14,13 @@ use Rattle.runs.specs.declared.TableFault.{TableFault}
 use Rattle.runs.specs.declared.TableFault.TheVariants.{EventCount, Event, Length, Span}
 use Rattle.runs.specs.Runs.{weigh, closed_runs, cell}
 use Rattle.runs.specs.Gaining.{some_gains, found_or, lowest, gaining_event}
-use Rattle.runs.specs.Links.{no_link, net_of, at}
+use Rattle.runs.specs.Links.{net_of, at}
 use Rattle.runs.specs.Tables.{in_range, events_below, right_lengths, spans_at_most_one, gain_fault, table_fault, CellsAfter, Tabled}
-use Rattle.runs.proofs.Columns.{fill_more}
 use Rattle.runs.proofs.Searches.{and_first, and_second}
 use Rattle.timetable.specs.declared.Constraint.{Constraint}
 use Rattle.timetable.specs.Words.{row_at, no_constraint, link_of, free_days}
 use Rattle.board.specs.Circuits.{free_at, days_between}
+use Rattle.board.proofs.Openings.{range_few}
 use Rattle.board.specs.Invariant.{constraint_in_range, all_in_range}
 
 or_true : (b : Bool) → (b || true) ≡ true
@@ -62,12 +61,6 @@ days_table_accepted m n rows ls ws cells spare range rows_in same few paired squ
     ∙ ap (λ t. unless t Span (gain_fault (gaining_event days_kind (net_of ls) (at days_kind m ws) n))) (spans m ws)
     ∙ ap gain_fault calm
 
--- the links of all constraints
-pub links_are : (rows : List Constraint) (links : List Link) → length links ≡ length rows → ((t : ℕ) → t < length rows → get_or links t no_link ≡ link_of (row_at rows t)) → links ≡ map link_of rows
-links_are rows links long each =
-    fill_by_all (λ t. link_of (row_at rows t)) links (length rows) no_link long each
-    ∙ sym (fill_by_all (λ t. link_of (row_at rows t)) (map link_of rows) (length rows) no_link (length-map rows link_of) (λ t h. get_or-map link_of rows t no_constraint no_link h))
-
 -- what is free at a number
 pub free_at_is : (rows : List Constraint) (k : ℕ) → free_at rows k ≡ free_days (row_at rows k)
 free_at_is rows k = elim (dec_lt k (length rows)) [
@@ -75,31 +68,21 @@ free_at_is rows k = elim (dec_lt k (length rows)) [
   | no h ↦ let past : length (map free_days rows) ≤ k = rw length-map (omega arith) in let out : length rows ≤ k = omega arith in get_or_past (map free_days rows) k days_kind.none past ∙ sym (ap free_days (get_or_past rows k no_constraint out))
 ]
 
--- one more link is written, whatever stands for a constraint past the end
-pub links_more : (rows : List Constraint) (links : List Link) (k : ℕ) (link : Link) (other : Constraint) → k < length rows → length links ≡ length rows → link ≡ link_of (get_or rows k other)
-    → ((t : ℕ) → t < k → get_or links t no_link ≡ link_of (row_at rows t)) → (t : ℕ) → t < k + 1 → get_or (set links k link) t no_link ≡ link_of (row_at rows t)
-links_more rows links k link other h long is before =
-    below_more (λ t. get_or (set links k link) t no_link ≡ link_of (row_at rows t)) k
-    (λ t l. get_or-set_other links k t link no_link (λ e. omega arith) ∙ before t l)
-    (get_or-set_same links k link no_link (omega arith) ∙ is ∙ ap link_of (get_or_default rows k other no_constraint h))
-
--- one more set of days is written
-pub days_more : {X : Type 0} (m : X → Weekday → Bool) (rows : List Constraint) (days : List X) (k : ℕ) (new : X) (other : Constraint) → k < length rows → length days ≡ length rows → m new ≡ free_days (get_or rows k other)
-    → ((t : ℕ) → t < k → at days_kind m days t ≡ free_at rows t) → (t : ℕ) → t < k + 1 → at days_kind m (set days k new) t ≡ free_at rows t
-days_more m rows days k new other h long is before =
-    fill_more days_kind m days k new (free_at rows) (omega arith) (is ∙ ap free_days (get_or_default rows k other no_constraint h) ∙ sym (free_at_is rows k)) before
-
--- the days of all constraints, at every number
-pub days_are : {X : Type 0} (m : X → Weekday → Bool) (rows : List Constraint) (days : List X) → length days ≡ length rows → ((t : ℕ) → t < length rows → at days_kind m days t ≡ free_at rows t) → (t : ℕ) → at days_kind m days t ≡ free_at rows t
-days_are m rows days long each t = elim (dec_lt t (length rows)) [
-  | yes h ↦ each t h
-  | no h ↦ let past : length (map m days) ≤ t = rw length-map (omega arith) in let out : length (map free_days rows) ≤ t = rw length-map (omega arith) in get_or_past (map m days) t days_kind.none past ∙ sym (get_or_past (map free_days rows) t days_kind.none out)
-]
+-- the table of the constraints' links and free days, in blank cells, is not refused
+pub days_table_accepted_blank : {X : Type 0} (m : X → Weekday → Bool) (n : ℕ) (rows : List Constraint) (ls : List Link) (ws : List X) (blank : X) → in_range n ≡ true → all_in_range n rows ≡ true → length rows ≤ 128
+    → ls ≡ map link_of rows → map m ws ≡ map free_days rows → table_fault days_kind m n ls ws (take (n * n) (replicate 1024 blank)) (take n (replicate 32 blank)) ≡ None
+days_table_accepted_blank m n rows ls ws blank range rows_in few same days =
+    let most : n ≤ 32 = range_few n range in
+    let small : n * n ≤ 32 * 32 = mul-le-mul most most in
+    days_table_accepted m n rows ls ws (take (n * n) (replicate 1024 blank)) (take n (replicate 32 blank)) range rows_in same few
+    (sym (length-map ws m) ∙ ap length days ∙ length-map rows free_days)
+    (length-take-le (n * n) (replicate 1024 blank) (omega (arith, small)))
+    (length-take-le n (replicate 32 blank) (omega (arith, most)))
 
 -- the table's cell, over the constraints themselves
-pub cell_between : {X : Type 0} (m : X → Weekday → Bool) (n : ℕ) (rows : List Constraint) (ls : List Link) (ws cells spare cells' spare' : List X) (r : Result (Unit {0}) TableFault) (i j : ℕ) → ls ≡ map link_of rows → ((k : ℕ) → at days_kind m ws k ≡ free_at rows k)
+pub cell_between : {X : Type 0} (m : X → Weekday → Bool) (n : ℕ) (rows : List Constraint) (ls : List Link) (ws cells spare cells' spare' : List X) (r : Result (Unit {0}) TableFault) (i j : ℕ) → ls ≡ map link_of rows → map m ws ≡ map free_days rows
     → table_fault days_kind m n ls ws cells spare ≡ None → Tabled days_kind m n ls ws cells spare (table_fault days_kind m n ls ws cells spare) cells' spare' r → i < n → j < n
     → at days_kind m cells' (i * n + j) ≡ days_between n rows i j
 cell_between m n rows ls ws cells spare cells' spare' r i j same days accepted t hi hj =
     let held : CellsAfter days_kind m n ls ws cells spare cells' None = subst (CellsAfter days_kind m n ls ws cells spare cells') accepted t.cells_hold in
-    held i j hi hj ∙ ap (λ l. cell days_kind (net_of l) (at days_kind m ws) n i j) same ∙ ap (λ w. cell days_kind (net_of (map link_of rows)) w n i j) (fun_ext days)
+    held i j hi hj ∙ ap (λ l. cell days_kind (net_of l) (at days_kind m ws) n i j) same ∙ ap (λ l. cell days_kind (net_of (map link_of rows)) (λ k. get_or l k days_kind.none) n i j) days

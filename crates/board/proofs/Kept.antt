@@ -1,25 +1,21 @@
 -- A dismissal can't change what counts: the net of the constraints that count on a day, their slack, and so the recovery times, stay.
-use Rattle.std.proofs.Common.{◌≡◌, ℕ, ◌*◌, ◌/◌, ◌%◌, Bool, true, false, not, ◌&&◌, List, map, length, get_or, ℤ, filter, unwrap_or, sym, refl, ap, ◌∙◌, arith}
+use Rattle.std.proofs.Common.{◌≡◌, ℕ, ◌*◌, ◌/◌, ◌%◌, Bool, ◌&&◌, List, map, length, get_or, ℤ, filter, Some, None, Option, unwrap_or, sym, refl, ap, subst, ◌∙◌, arith}
 use mathlib.Core.Path.{fun_ext}
 use Rattle.std.specs.List.{range_with_len}
-use Rattle.std.proofs.lemmas.Bool.Decides.{nat_tests}
 use Rattle.runs.specs.Nets.{Net}
-use Rattle.runs.proofs.Searches.{and_first}
 use Rattle.timetable.specs.declared.Constraint.{Constraint}
 use Rattle.timetable.specs.declared.State.{State}
 use Rattle.timetable.specs.declared.State.TheVariants.{Standing, Suspended, Withdrawn}
 use Rattle.timetable.specs.declared.LedgerEvent.{LedgerEvent}
 use Rattle.timetable.specs.declared.LedgerEvent.TheVariants.{Suspend, Restore, Dismiss, Withdraw}
 use Rattle.timetable.specs.Words.{stands, has_day, counted, slack_of, row_at, counted_net}
-use Rattle.timetable.specs.Changes.{state_after, changes_counted, moved, changed}
+use Rattle.timetable.specs.Changes.{state_after, moved, changed}
 use Rattle.delays.specs.Recovery.{recovery, slack_at}
 use Rattle.delays.specs.declared.Cell.{Cell}
 use Rattle.delays.specs.Cells.{code, recoveries}
 use Rattle.board.specs.Invariant.{KeptHolds}
+use Rattle.board.specs.Ledger.{kept_through}
 use Rattle.board.proofs.Changes.{length_changed, same_at}
-
-no_mark : (b : Bool) → (b && false) ≡ true → ⊥
-no_mark b marked = grind (arith, nat_tests)
 
 still_stands : (state : State) → stands (unwrap_or (state_after state Dismiss) state) ≡ stands state
 still_stands Standing = refl
@@ -56,9 +52,23 @@ recoveries_dismissed day departures period rows k =
     ap (λ net. by net (slack_at departures period (changed (moved Dismiss) rows k))) (net_dismissed day rows k)
     ∙ ap (λ slack. by (counted_net day rows) slack) (slack_dismissed departures period rows k)
 
--- a kept table that stays marked only where the event can't change what counts, is still right
-pub held_moved : (event : LedgerEvent) (before after : Bool) (day : ℕ) (departures : List ℕ) (period : ℕ) (rows : List Constraint) (k : ℕ) (cells : List Cell) → after ≡ (before && not (changes_counted event)) → KeptHolds before day departures period rows cells → KeptHolds after day departures period (changed (moved event) rows k) cells
-held_moved Dismiss before after day departures period rows k cells stays held marked = held (and_first before true (sym stays ∙ marked)) ∙ sym (recoveries_dismissed day departures period rows k)
-held_moved Suspend before after day departures period rows k cells stays held marked = absurd (no_mark before (sym stays ∙ marked))
-held_moved Restore before after day departures period rows k cells stays held marked = absurd (no_mark before (sym stays ∙ marked))
-held_moved Withdraw before after day departures period rows k cells stays held marked = absurd (no_mark before (sym stays ∙ marked))
+none_some : (day : ℕ) → None ≡ Some day → ⊥
+none_some day is = let z : ◌≡◌ {A = ℕ} 0 1 = cc in omega arith
+
+-- a kept table that stays current only where the event can't change what counts, is still right
+held_moved : (event : LedgerEvent) (day : Option ℕ) (departures : List ℕ) (period : ℕ) (rows : List Constraint) (k : ℕ) (cells : List Cell) → KeptHolds day departures period rows cells → KeptHolds (kept_through event day) departures period (changed (moved event) rows k) cells
+held_moved Dismiss day departures period rows k cells held = λ d is. held d is ∙ sym (recoveries_dismissed d departures period rows k)
+held_moved Suspend day departures period rows k cells held = λ d is. absurd (none_some d is)
+held_moved Restore day departures period rows k cells held = λ d is. absurd (none_some d is)
+held_moved Withdraw day departures period rows k cells held = λ d is. absurd (none_some d is)
+
+pub held_after : (event : LedgerEvent) (day day' : Option ℕ) (departures : List ℕ) (period : ℕ) (rows rows' : List Constraint) (k : ℕ) (cells : List Cell) → day' ≡ kept_through event day → rows' ≡ changed (moved event) rows k → KeptHolds day departures period rows cells → KeptHolds day' departures period rows' cells
+held_after event day day' departures period rows rows' k cells stays same held =
+    subst (λ d. KeptHolds d departures period rows' cells) (sym stays) (subst (λ x. KeptHolds (kept_through event day) departures period x cells) (sym same) (held_moved event day departures period rows k cells held))
+
+-- a new board keeps none
+pub none_kept : (event : LedgerEvent) (day : Option ℕ) → day ≡ None → kept_through event day ≡ None
+none_kept Dismiss day none = none
+none_kept Suspend day none = refl
+none_kept Restore day none = refl
+none_kept Withdraw day none = refl

@@ -6,5 +6,6 @@ pub mod FreeCircuits
 pub mod Additions
 pub mod Changes
 pub mod Kept
+pub mod Rows
 pub mod Lending
 pub mod Loading

@@ -1,5 +1,6 @@
 -- Loading step by step on the plain ledger, as the board's calls leave it.
-use Rattle.std.proofs.Common.{◌≡◌, ℕ, ◌+◌, ◌*◌, Bool, true, false, cond, List, length, IfOk, Some, None, Ok, Err, Result, sym, refl, ap, ◌∙◌, arith}
+use Rattle.std.proofs.Common.{◌≡◌, ℕ, ◌+◌, ◌*◌, List, length, Some, None, Ok, Err, Result, sym, ap, subst, refl, ◌∙◌, arith}
+use Rattle.faults.specs.Causes.{fault_of}
 use Rattle.timetable.specs.declared.Addition.{Addition}
 use Rattle.board_file.specs.declared.FrameFault.{FrameFault}
 use Rattle.board_file.specs.declared.RecordFault.{RecordFault}
@@ -16,12 +17,16 @@ use Rattle.board_file.proofs.Encoding.{loads_encodings}
 use Rattle.board_file.proofs.Steps.{entries_refused, entries_judged, entries_more, entries_ended, entries_trailing, load_opening_refused, load_judged, load_departures_refused, load_begin_refused, load_begun}
 use Rattle.board.specs.declared.fault.BoardFault.{BoardFault}
 use Rattle.board.specs.Ledger.{Held, Ledger, nothing, holding, unless_refused, open_fault, opened_as, open_after, constraint_of, add_fault, grown, with_row, add_after}
-use Rattle.board.specs.Loads.{unless_fault, judged_at_opening, opened_by, performed_by, load_held, loaded_ledger, load_after, LoadLaw, entries_held}
+use Rattle.board.specs.Loads.{unless_fault, judged_at, judged_at_opening, opened_by, performed_by, load_held, loaded_ledger, load_after, LoadLaw, entries_held, IfHolding, IsHolding, OpenedBy}
 
--- what a ledger says of the board that it stands for
-pub held_from : (opened : Bool) (h g : Held) → cond opened (holding h) nothing ≡ holding g → (opened ≡ true) × (h ≡ g)
-held_from true h g e = (refl, cc)
-held_from false h g e = absurd (let z : ◌≡◌ {A = ℕ} 0 1 = cc in omega arith)
+-- what stands behind an outcome at a place: a fault of the board, or none
+pub judged_refused : {A : Type 0} (place : ℕ) (outcome : Result A BoardFault) (e : LoadFault BoardFault) → judged_at place outcome ≡ Err e → (f : BoardFault) × (Some f ≡ fault_of outcome) × (e ≡ Judged place f)
+judged_refused place (Ok x) e is = cc
+judged_refused place (Err f) e is = (f, refl, cc)
+
+pub judged_accepted : {A : Type 0} (place : ℕ) (outcome : Result A BoardFault) (x : A) → judged_at place outcome ≡ Ok x → None ≡ fault_of outcome
+judged_accepted place (Ok y) x is = refl
+judged_accepted place (Err f) x is = cc
 
 -- an addition that is accepted, and one that is refused
 accepted_by : (h : Held) (a : Addition) → add_fault (holding h) a ≡ None → performed_by h a ≡ Ok (grown h (constraint_of a))
@@ -30,87 +35,89 @@ accepted_by h a e = ap (λ f. and_then (unless_fault f (grown h (constraint_of a
 refused_by : (h : Held) (a : Addition) (f : BoardFault) → add_fault (holding h) a ≡ Some f → performed_by h a ≡ Err f
 refused_by h a f e = ap (λ x. and_then (unless_fault x (grown h (constraint_of a))) (λ k. Ok k)) e
 
-module _ (bytes : List ℕ) (place : ℕ) (h : Held) where
-  pub step_refused : (e : RecordFault) → entry_at bytes place ≡ Err e → entries_held bytes place h ≡ Err (Record e)
+-- one entry at a place, by what stands there and what an addition is answered
+module _ (bytes : List ℕ) (place : ℕ) where
+  pub step_refused : (l : Ledger) (e : RecordFault) → entry_at bytes place ≡ Err e → IfHolding l (λ h. entries_held bytes place h ≡ Err (Record e))
   unfolding entries_held
-  step_refused e is = entries_refused performed_by bytes (length bytes) place h e (omega arith) is
+  step_refused nothing e is = tt
+  step_refused (holding h) e is = entries_refused performed_by bytes (length bytes) place h e (omega arith) is
 
-  pub step_ended : entry_at bytes place ≡ Ok End → end_at bytes (place + 3) ≡ Ok tt → entries_held bytes place h ≡ Ok h
+  pub step_ended : (l : Ledger) → entry_at bytes place ≡ Ok End → end_at bytes (place + 3) ≡ Ok tt → IfHolding l (λ h. IsHolding l (λ g. entries_held bytes place h ≡ Ok g))
   unfolding entries_held
-  step_ended is ends = entries_ended performed_by bytes (length bytes) place h (omega arith) is ends
+  step_ended nothing is ends = tt
+  step_ended (holding h) is ends = entries_ended performed_by bytes (length bytes) place h (omega arith) is ends
 
-  pub step_trailing : (e : FrameFault) → entry_at bytes place ≡ Ok End → end_at bytes (place + 3) ≡ Err e → entries_held bytes place h ≡ Err (Record (Frame e))
+  pub step_trailing : (l : Ledger) (e : FrameFault) → entry_at bytes place ≡ Ok End → end_at bytes (place + 3) ≡ Err e → IfHolding l (λ h. entries_held bytes place h ≡ Err (Record (Frame e)))
   unfolding entries_held
-  step_trailing e is ends = entries_trailing performed_by bytes (length bytes) place h e (omega arith) is ends
+  step_trailing nothing e is ends = tt
+  step_trailing (holding h) e is ends = entries_trailing performed_by bytes (length bytes) place h e (omega arith) is ends
 
-  -- an addition on an opened board: what the call is answered and leaves is what the entry does
-  pub step_judged : (l : Ledger) (a : Addition) (f : BoardFault) (opened : Bool) (after : Held) → l ≡ holding h → entry_at bytes place ≡ Ok (Add a) → Some f ≡ add_fault l a → cond opened (holding after) nothing ≡ add_after l a
-      → (opened ≡ true) × (entries_held bytes place h ≡ Err (Judged place f))
+  pub step_judged : (l : Ledger) (a : Addition) (f : BoardFault) → entry_at bytes place ≡ Ok (Add a) → Some f ≡ add_fault l a → IfHolding l (λ h. entries_held bytes place h ≡ Err (Judged place f))
   unfolding entries_held
-  step_judged l a f opened after held is refused left =
-      let fault : add_fault (holding h) a ≡ Some f = sym (refused ∙ ap (λ x. add_fault x a) held) in
-      let same : cond opened (holding after) nothing ≡ holding h = left ∙ ap (λ x. unless_refused x (with_row l (constraint_of a)) l) (sym refused) ∙ held in
-      ((held_from opened after h same).0, entries_judged performed_by bytes (length bytes) place h a f (omega arith) is (refused_by h a f fault))
+  step_judged nothing a f is refused = tt
+  step_judged (holding h) a f is refused = entries_judged performed_by bytes (length bytes) place h a f (omega arith) is (refused_by h a f (sym refused))
 
-  pub step_added : (l : Ledger) (a : Addition) (opened : Bool) (after : Held) → l ≡ holding h → entry_at bytes place ≡ Ok (Add a) → None ≡ add_fault l a → cond opened (holding after) nothing ≡ add_after l a
-      → (opened ≡ true) × (entries_held bytes place h ≡ entries_held bytes (place + 10) after)
+  pub step_added : (l after : Ledger) (a : Addition) → entry_at bytes place ≡ Ok (Add a) → None ≡ add_fault l a → after ≡ add_after l a → IfHolding l (λ h. IsHolding after (λ g. entries_held bytes place h ≡ entries_held bytes (place + 10) g))
   unfolding entries_held
-  step_added l a opened after held is accepted left =
-      let fault : add_fault (holding h) a ≡ None = sym (accepted ∙ ap (λ x. add_fault x a) held) in
-      let same : cond opened (holding after) nothing ≡ holding (grown h (constraint_of a)) = left ∙ ap (λ x. unless_refused x (with_row l (constraint_of a)) l) (sym accepted) ∙ ap (λ x. with_row x (constraint_of a)) held in
-      let found = held_from opened after (grown h (constraint_of a)) same in
-      (found.0, entries_more performed_by bytes (length bytes) (length bytes) place h (grown h (constraint_of a)) a (omega arith) (omega arith) is (accepted_by h a fault) ∙ ap (λ x. entries_held bytes (place + 10) x) (sym found.1))
-
--- one entry more: what is to come of it is what was to come
-pub step_on : (bytes : List ℕ) (start place next : ℕ) (first before after : Held) → entries_held bytes place before ≡ entries_held bytes start first → entries_held bytes place before ≡ entries_held bytes next after → entries_held bytes next after ≡ entries_held bytes start first
-step_on bytes start place next first before after whole step = sym step ∙ whole
+  step_added nothing after a is accepted left = tt
+  step_added (holding h) after a is accepted left =
+      let same : after ≡ holding (grown h (constraint_of a)) = left ∙ ap (λ x. unless_refused x (with_row (holding h) (constraint_of a)) (holding h)) (sym accepted) in
+      subst (λ l. IsHolding l (λ g. entries_held bytes place h ≡ entries_held bytes (place + 10) g)) (sym same)
+      (entries_more performed_by bytes (length bytes) (length bytes) place h (grown h (constraint_of a)) a (omega arith) (omega arith) is (accepted_by h a (sym accepted)))
 
 -- the opening with its departures
-module _ (bytes : List ℕ) (o : OpeningRecord) (judged : judged_at_opening o ≡ None) where
-  pub departures_refused : (e : RecordFault) → departures_at o.events bytes 10 ≡ Err e → opening_at bytes 0 ≡ Ok o → load_held bytes ≡ Err (Record e)
+module _ (bytes : List ℕ) (o : OpeningRecord) where
+  pub head_refused : (f : BoardFault) → Some f ≡ judged_at_opening o → opening_at bytes 0 ≡ Ok o → load_held bytes ≡ Err (Judged 0 f)
   unfolding load_held
-  departures_refused e read first = load_departures_refused judged_at_opening opened_by performed_by bytes o e first judged read
+  head_refused f judged first = load_judged judged_at_opening opened_by performed_by bytes o f first (sym judged)
 
-  opening_refused : (departures : List ℕ) (f : BoardFault) → departures_at o.events bytes 10 ≡ Ok departures → open_fault nothing o.events o.period departures ≡ Some f → opening_at bytes 0 ≡ Ok o → load_held bytes ≡ Err (Judged 10 f)
-  unfolding load_held
-  opening_refused departures f read refused first = load_begin_refused judged_at_opening opened_by performed_by bytes o departures f first judged read (ap (λ x. unless_fault x (opened_as o.mark o.events o.period departures)) refused)
+  module _ (judged : None ≡ judged_at_opening o) where
+    pub departures_refused : (e : RecordFault) → departures_at o.events bytes 10 ≡ Err e → opening_at bytes 0 ≡ Ok o → load_held bytes ≡ Err (Record e)
+    unfolding load_held
+    departures_refused e read first = load_departures_refused judged_at_opening opened_by performed_by bytes o e first (sym judged) read
 
-  -- a new board refuses the opening
-  pub opening_judged : (l : Ledger) (departures : List ℕ) (f : BoardFault) → l ≡ nothing → departures_at o.events bytes 10 ≡ Ok departures → Some f ≡ open_fault l o.events o.period departures → opening_at bytes 0 ≡ Ok o → load_held bytes ≡ Err (Judged 10 f)
-  opening_judged l departures f new read refused first = opening_refused departures f read (sym (refused ∙ ap (λ x. open_fault x o.events o.period departures) new)) first
+    -- a new board refuses the opening
+    pub opening_refused : (departures : List ℕ) (f : BoardFault) → departures_at o.events bytes 10 ≡ Ok departures → Some f ≡ open_fault nothing o.events o.period departures → opening_at bytes 0 ≡ Ok o → load_held bytes ≡ Err (Judged 10 f)
+    unfolding load_held
+    opening_refused departures f read refused first = load_begin_refused judged_at_opening opened_by performed_by bytes o departures f first (sym judged) read (ap (λ x. unless_fault x (opened_as o.mark o.events o.period departures)) (sym refused))
 
-  -- a new board is opened
-  pub opening_held : (l : Ledger) (departures : List ℕ) (opened : Bool) (after : Held) → l ≡ nothing → None ≡ open_fault l o.events o.period departures → cond opened (holding after) nothing ≡ open_after l o.mark o.events o.period departures
-      → (opened ≡ true) × (opened_by o departures ≡ Ok after)
-  opening_held l departures opened after new accepted left =
-      let fault : open_fault nothing o.events o.period departures ≡ None = sym (accepted ∙ ap (λ x. open_fault x o.events o.period departures) new) in
-      let same : cond opened (holding after) nothing ≡ holding (opened_as o.mark o.events o.period departures) = left ∙ ap (λ x. unless_refused x (holding (opened_as o.mark o.events o.period departures)) l) (sym accepted) in
-      let found = held_from opened after (opened_as o.mark o.events o.period departures) same in
-      (found.0, ap (λ x. unless_fault x (opened_as o.mark o.events o.period departures)) fault ∙ ap (λ (x : Held). Ok x) (sym found.1))
+    -- a new board is opened
+    pub opening_held : (departures : List ℕ) (after : Ledger) → departures_at o.events bytes 10 ≡ Ok departures → None ≡ open_fault nothing o.events o.period departures → after ≡ open_after nothing o.mark o.events o.period departures
+        → IsHolding after (λ h. opening_at bytes 0 ≡ Ok o → load_held bytes ≡ entries_held bytes (13 + 4 * o.events) h)
+    unfolding load_held entries_held
+    opening_held departures after read accepted left =
+        let opened : Held = opened_as o.mark o.events o.period departures in
+        let same : after ≡ holding opened = left ∙ ap (λ x. unless_refused x (holding opened) nothing) (sym accepted) in
+        subst (λ l. IsHolding l (λ h. opening_at bytes 0 ≡ Ok o → load_held bytes ≡ entries_held bytes (13 + 4 * o.events) h)) (sym same)
+        (λ first. load_begun judged_at_opening opened_by performed_by bytes (length bytes) o departures opened first (sym judged) read (ap (λ x. unless_fault x opened) (sym accepted)) (omega arith))
 
--- what the reader of departures answered, by what it left
-pub read_refused : (q : Result (List ℕ) RecordFault) (e : RecordFault) → Err e ≡ departures_reply q → q ≡ Err e
-read_refused (Ok ds) e is = absurd (let z : ◌≡◌ {A = ℕ} 0 1 = cc in omega arith)
-read_refused (Err f) e is = let same : f ≡ e = cc in ap (λ (x : RecordFault). Err x) same
+    -- a new board's outcome of the opening
+    pub opened_so : (departures : List ℕ) (after : Ledger) (outcome : Result (Unit {0}) BoardFault) → departures_at o.events bytes 10 ≡ Ok departures → fault_of outcome ≡ open_fault nothing o.events o.period departures
+        → after ≡ open_after nothing o.mark o.events o.period departures → OpenedBy bytes o after (judged_at 10 outcome)
+    opened_so departures after (Ok x) read reply left = opening_held departures after read reply left
+    opened_so departures after (Err f) read reply left = opening_refused departures f read reply
 
-pub read_done : (q : Result (List ℕ) RecordFault) (departures before : List ℕ) → Ok tt ≡ departures_reply q → departures ≡ departures_after q before → q ≡ Ok departures
-read_done (Ok ds) departures before is left = ap (λ (x : List ℕ). Ok x) (sym left)
-read_done (Err f) departures before is left = absurd (let z : ◌≡◌ {A = ℕ} 0 1 = cc in omega arith)
+-- what the reader of departures answered, by what it left in as many places as there are events
+module _ (events : ℕ) (bytes before : List ℕ) where
+  refused_so : (q : Result (List ℕ) RecordFault) (e : RecordFault) → Err e ≡ departures_reply q → q ≡ Err e
+  refused_so (Ok ds) e is = absurd (let z : ◌≡◌ {A = ℕ} 0 1 = cc in omega arith)
+  refused_so (Err f) e is = let same : f ≡ e = cc in ap (λ (x : RecordFault). Err x) same
+
+  done_so : (q : Result (List ℕ) RecordFault) (departures : List ℕ) → Ok tt ≡ departures_reply q → departures ≡ departures_after q before → q ≡ Ok departures
+  done_so (Ok ds) departures is left = ap (λ (x : List ℕ). Ok x) (sym left)
+  done_so (Err f) departures is left = absurd (let z : ◌≡◌ {A = ℕ} 0 1 = cc in omega arith)
+
+  pub read_refused : (e : RecordFault) → length before ≡ events → Err e ≡ departures_reply (departures_at (length before) bytes 10) → departures_at events bytes 10 ≡ Err e
+  read_refused e long is = ap (λ n. departures_at n bytes 10) (sym long) ∙ refused_so (departures_at (length before) bytes 10) e is
+
+  pub read_done : (departures : List ℕ) → length before ≡ events → Ok tt ≡ departures_reply (departures_at (length before) bytes 10) → departures ≡ departures_after (departures_at (length before) bytes 10) before → departures_at events bytes 10 ≡ Ok departures
+  read_done departures long is left = ap (λ n. departures_at n bytes 10) (sym long) ∙ done_so (departures_at (length before) bytes 10) departures is left
 
 -- the whole file
 module _ (bytes : List ℕ) where
   pub file_refused : (e : RecordFault) → opening_at bytes 0 ≡ Err e → load_held bytes ≡ Err (Record e)
   unfolding load_held
   file_refused e first = load_opening_refused judged_at_opening opened_by performed_by bytes e first
-
-  pub file_judged : (o : OpeningRecord) (f : BoardFault) → opening_at bytes 0 ≡ Ok o → judged_at_opening o ≡ Some f → load_held bytes ≡ Err (Judged 0 f)
-  unfolding load_held
-  file_judged o f first judged = load_judged judged_at_opening opened_by performed_by bytes o f first judged
-
-  pub file_begun : (o : OpeningRecord) (departures : List ℕ) (h : Held) → opening_at bytes 0 ≡ Ok o → judged_at_opening o ≡ None → departures_at o.events bytes 10 ≡ Ok departures → opened_by o departures ≡ Ok h
-      → load_held bytes ≡ entries_held bytes (13 + 4 * o.events) h
-  unfolding load_held entries_held
-  file_begun o departures h first judged read begun = load_begun judged_at_opening opened_by performed_by bytes (length bytes) o departures h first judged read begun (omega arith)
 
   loaded_so : (q : Result Held (LoadFault BoardFault)) (h : Held) → loaded_ledger q ≡ holding h → q ≡ Ok h
   loaded_so (Ok g) h e = let same : g ≡ h = cc in ap (λ (x : Held). Ok x) same
@@ -124,10 +131,6 @@ module _ (bytes : List ℕ) where
     λ accepted. left ∙ ap loaded_ledger ((loads_encodings judged_at_opening opened_by performed_by bytes small h).1 accepted),
   )
 
-  pub load_law : Bytes bytes → (opened : Bool) (h : Held) (after : Ledger) → after ≡ load_after (cond opened (holding h) nothing) bytes → LoadLaw (cond opened (holding h) nothing) bytes after
-  load_law small true h after left = left
-  load_law small false h after left = law_new small after left
-
-pub made_any : {X Y : Type 0} (r : Result X Y) (P : Type 0) → P → IfOk r (λ _. P)
-made_any (Ok x) P p = p
-made_any (Err y) P p = tt
+  pub load_law : Bytes bytes → (before after : Ledger) → after ≡ load_after before bytes → LoadLaw before bytes after
+  load_law small (holding h) after left = left
+  load_law small nothing after left = law_new small after left

@@ -1,5 +1,5 @@
 -- Loading: what a board file's records come to on the plain ledger, and which files are accepted.
-use Rattle.std.specs.Prelude.{◌≡◌, ℕ, ◌<◌, ◌≤◌, ◌↔◌, List, [], ◌∷◌, length, Some, None, Ok, Err, Option, Result}
+use Rattle.std.specs.Prelude.{◌≡◌, ℕ, ◌+◌, ◌*◌, ◌↔◌, List, [], ◌∷◌, length, Some, None, Ok, Err, Option, Result}
 use Rattle.faults.specs.Causes.{fault_of}
 use Rattle.faults.specs.declared.Report.{Report}
 use Rattle.timetable.specs.declared.Addition.{Addition}
@@ -7,7 +7,7 @@ use Rattle.board_file.specs.declared.LoadFault.{LoadFault}
 use Rattle.board_file.specs.declared.LoadFault.TheVariants.{Record, Judged}
 use Rattle.board_file.specs.declared.OpeningRecord.{OpeningRecord}
 use Rattle.board_file.specs.Faults.{record_report}
-use Rattle.board_file.specs.Records.{opening_at, departures_at}
+use Rattle.board_file.specs.Records.{opening_at}
 use Rattle.board_file.specs.Loading.{and_then, entries_from, load_file, Accepted}
 use Rattle.board.specs.declared.fault.BoardFault.{BoardFault}
 use Rattle.board.specs.declared.fault.BoardFault.TheVariants.{Opened}
@@ -35,6 +35,11 @@ called h (adding a) = unless_fault (add_fault (holding h) a) (grown h (constrain
 abbrev pub called_in_order : Held → List Call → Result Held BoardFault
 called_in_order h [] = Ok h
 called_in_order h (c ∷ calls) = and_then (called h c) (λ k. called_in_order k calls)
+
+-- the board's outcome at a record whose tag stands at a place: a refusal lies there
+abbrev pub judged_at : {A : Type 0} → ℕ → Result A BoardFault → Result A (LoadFault BoardFault)
+judged_at place (Ok x) = Ok x
+judged_at place (Err fault) = Err (Judged place fault)
 
 -- the number of events and the period are judged at the opening record
 abbrev pub judged_at_opening : OpeningRecord → Option BoardFault
@@ -86,18 +91,28 @@ load_report (Judged place fault) = placed place (board_report fault)
 unfoldable pub entries_held : List ℕ → ℕ → Held → Result Held (LoadFault BoardFault)
 entries_held bytes place h = entries_from performed_by (length bytes) bytes place h
 
+-- P of what a ledger holds, where it is no new board's
+abbrev pub IfHolding : Ledger → (Held → Type 0) → Type 0
+IfHolding nothing P = Unit {0}
+IfHolding (holding h) P = P h
+
+-- a ledger is no new board's, and P of what it holds
+abbrev pub IsHolding : Ledger → (Held → Type 0) → Type 0
+IsHolding nothing P = ⊥
+IsHolding (holding h) P = P h
+
 -- what one entry at a place does to what is held: it is refused, or it is the end, or the next entry follows
-abbrev pub Stepped : List ℕ → ℕ → Held → Held → Result (Option ℕ) (LoadFault BoardFault) → Type 0
+abbrev pub Stepped : List ℕ → ℕ → Held → Ledger → Result (Option ℕ) (LoadFault BoardFault) → Type 0
 Stepped bytes place before after (Err fault) = entries_held bytes place before ≡ Err fault
-Stepped bytes place before after (Ok None) = entries_held bytes place before ≡ Ok after
-Stepped bytes place before after (Ok (Some next)) = (entries_held bytes place before ≡ entries_held bytes next after) × (place < next) × (next ≤ length bytes)
+Stepped bytes place before after (Ok None) = IsHolding after (λ h. entries_held bytes place before ≡ Ok h)
+Stepped bytes place before after (Ok (Some next)) = IsHolding after (λ h. entries_held bytes place before ≡ entries_held bytes next h)
 
 -- a part of the loading came to what is then held, or to the fault
-abbrev pub Came : Result Held (LoadFault BoardFault) → Held → Result (Unit {0}) (LoadFault BoardFault) → Type 0
-Came outcome after (Ok done) = outcome ≡ Ok after
+abbrev pub Came : Result Held (LoadFault BoardFault) → Ledger → Result (Unit {0}) (LoadFault BoardFault) → Type 0
+Came outcome after (Ok done) = IsHolding after (λ h. outcome ≡ Ok h)
 Came outcome after (Err fault) = outcome ≡ Err fault
 
--- the departures were read and opened the board with what is then held, or loading stops at the fault
-abbrev pub OpenedBy : List ℕ → OpeningRecord → List ℕ → Held → Result (Unit {0}) (LoadFault BoardFault) → Type 0
-OpenedBy bytes o departures after (Ok done) = (departures_at o.events bytes 10 ≡ Ok departures) × (opened_by o departures ≡ Ok after)
-OpenedBy bytes o departures after (Err fault) = opening_at bytes 0 ≡ Ok o → load_held bytes ≡ Err fault
+-- the file's first record opened the board, so that the entries are still to come, or loading stops at the fault
+abbrev pub OpenedBy : List ℕ → OpeningRecord → Ledger → Result (Unit {0}) (LoadFault BoardFault) → Type 0
+OpenedBy bytes o after (Ok done) = IsHolding after (λ h. opening_at bytes 0 ≡ Ok o → load_held bytes ≡ entries_held bytes (13 + 4 * o.events) h)
+OpenedBy bytes o after (Err fault) = opening_at bytes 0 ≡ Ok o → load_held bytes ≡ Err fault

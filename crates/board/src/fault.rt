@@ -1,95 +1,57 @@
 // The board's faults.
-ghost use Rattle.std.specs.Prelude.{◌≡◌, ◌==◌};
+ghost use Rattle.std.specs.Prelude.{◌≡◌};
 ghost use Rattle.board.specs.Faults.{board_report};
-ghost use Rattle.std.specs.Cmp.Rules.{comparing};
-ghost use Rattle.std.proofs.Common.{rules};
 
 use faults::{Layer, Report};
 
-// Why a board refuses a call.
-#[derive(Clone, Copy, Debug)]
+// Why a board refuses a call, with the number of the fault.
+#[derive(Clone, Copy, PartialEq, Eq, Debug)]
 pub enum BoardFault {
     // another call than opening or loading, on a new board
-    New,
+    New = 1,
     // opening or loading an opened board
-    Opened,
+    Opened = 2,
     // the number of events is not 1 to 32
-    EventCount,
+    EventCount = 3,
     // the period is not 1 to 86,400
-    Period,
+    Period = 4,
     // a departure is not below the period
-    Departure,
+    Departure = 5,
     // an event is not below the number of events
-    Event,
+    Event = 6,
     // the time is above 14,400
-    Time,
+    Time = 7,
     // there are more than 7 tokens
-    Tokens,
+    Tokens = 8,
     // the days mask is not 1 to 127
-    Days,
+    Days = 9,
     // the letter is not R, L, T or H
-    Letter,
+    Letter = 10,
     // 128 additions were accepted
-    Full,
+    Full = 11,
     // the addition would close a token-free circuit
-    Circuit,
+    Circuit = 12,
     // a number that was never given to a constraint
-    Number,
+    Number = 13,
     // the constraint of the number does not stand
-    NotStanding,
+    NotStanding = 14,
     // suspending a constraint of letter R or L
-    NotSuspendable,
+    NotSuspendable = 15,
     // a ticket of another mark, or of a number that is not suspended
-    Ticket,
+    Ticket = 16,
     // a list has the wrong length
-    Length,
+    Length = 18,
 }
 
-impl BoardFault {
-    // The fault's number.
-    fn number(self) -> u8
-        ensures { result ≡ (board_report self).number }
-    {
-        match self {
-            BoardFault::New => 1,
-            BoardFault::Opened => 2,
-            BoardFault::EventCount => 3,
-            BoardFault::Period => 4,
-            BoardFault::Departure => 5,
-            BoardFault::Event => 6,
-            BoardFault::Time => 7,
-            BoardFault::Tokens => 8,
-            BoardFault::Days => 9,
-            BoardFault::Letter => 10,
-            BoardFault::Full => 11,
-            BoardFault::Circuit => 12,
-            BoardFault::Number => 13,
-            BoardFault::NotStanding => 14,
-            BoardFault::NotSuspendable => 15,
-            BoardFault::Ticket => 16,
-            BoardFault::Length => 18,
-        }
-    }
+// The fault's layer, number and place.
+impl From<BoardFault> for Report {
+    ghost from_gives = { λ fault report. report ≡ board_report fault };
 
-    // The fault's layer, number and place.
-    pub fn report(self) -> Report
-        ensures { result ≡ board_report self }
-    {
+    fn from(fault: BoardFault) -> Report {
         Report {
             layer: Layer::Board,
-            number: self.number(),
+            number: fault as u8,
             place: 0,
         }
-    }
-}
-
-// Each fault has a number of its own.
-impl PartialEq for BoardFault {
-    ghost eq = { λ x y. ((board_report x).number == (board_report y).number) };
-
-    ghost laws = { Prim.search (comparing, rules) };
-
-    fn eq(&self, other: &BoardFault) -> bool {
-        self.number() == other.number()
     }
 }

@@ -1,13 +1,13 @@
 // Changes of constraints: retiming, withdrawing, suspending, and restoring or dismissing by a ticket.
-ghost use Rattle.std.specs.Prelude.{◌≡◌, not, ◌&&◌, IfOk, None};
+ghost use Rattle.std.specs.Prelude.{◌≡◌, IfOk, None};
 ghost use Rattle.faults.specs.Causes.{fault_of};
 ghost use Rattle.timetable.specs.declared.LedgerEvent.TheVariants.{Restore, Dismiss};
-ghost use Rattle.timetable.specs.Changes.{changes_counted, moved};
+ghost use Rattle.timetable.specs.Changes.{moved};
 ghost use Rattle.timetable.specs.Words.{suspended, row_at};
 ghost use Rattle.board.specs.Ledger.{standing_fault, changed_at, retime_fault, retime_after, withdraw_fault, withdraw_after, suspend_fault, suspend_after, mark_of, spend_fault, spend_after, SpentOrBack, kept_after, kept_through, kept_spent};
 ghost use Rattle.board.specs.Holding.{ledger_of, kept_day};
 
-use crate::{Board, BoardFault, Ticket};
+use crate::{Board, BoardFault, LONGEST_TIME, Ticket};
 use timetable::{Constraint, LedgerEvent, State};
 
 // The standing constraint of a number, or why there is none: the number was never given, or the constraint is suspended or withdrawn.
@@ -15,31 +15,22 @@ fn standing_at(constraints: &[Constraint], number: u8) -> Result<Constraint, Boa
     ensures fault { fault_of result ≡ standing_fault constraints.now number None }
     ensures row { IfOk result (λ c. c ≡ row_at constraints.now number) }
 {
-    let at = usize::from(number);
-    if at >= constraints.len() {
-        return Err(BoardFault::Number);
+    let constraint = constraints
+        .get(usize::from(number))
+        .ok_or(BoardFault::Number)?;
+    if constraint.state != State::Standing {
+        return Err(BoardFault::NotStanding);
     }
-    let constraint = constraints[at];
-    match constraint.state {
-        State::Standing => Ok(constraint),
-        State::Suspended => Err(BoardFault::NotStanding),
-        State::Withdrawn => Err(BoardFault::NotStanding),
-    }
+    Ok(*constraint)
 }
 
 // Whether the constraint of a number is suspended.
 fn is_suspended(constraints: &[Constraint], number: u8) -> bool
     ensures { result ≡ suspended (row_at constraints.now number).state }
 {
-    let at = usize::from(number);
-    if at >= constraints.len() {
-        return false;
-    }
-    match constraints[at].state {
-        State::Standing => false,
-        State::Suspended => true,
-        State::Withdrawn => false,
-    }
+    constraints
+        .get(usize::from(number))
+        .is_some_and(|constraint| constraint.state == State::Suspended)
 }
 
 impl Ticket {
@@ -58,11 +49,11 @@ impl Ticket {
     }
 }
 
-// Whether a recovery table that is current stays so through an event: only where the event can't change what counts.
-fn stays_current(current: bool, event: LedgerEvent) -> bool
-    ensures { result ≡ (current && not (changes_counted event)) }
+// What becomes, through an event, of the day whose recovery table is kept: it stays only where the event can't change what counts.
+fn day_after(day: Option<u8>, event: LedgerEvent) -> Option<u8>
+    ensures { result ≡ kept_through event day }
 {
-    current && !event.changes_counted()
+    if event.changes_counted() { None } else { day }
 }
 
 impl Board {
@@ -72,7 +63,7 @@ impl Board {
         ensures after { ledger_of self.new ≡ changed_at (moved event) number (ledger_of self.old) }
         ensures kept { kept_day self.new ≡ kept_through event (kept_day self.old) }
     {
-        self.current = stays_current(self.current, event);
+        self.day = day_after(self.day, event);
         let _ = self.table.change(usize::from(number), event);
     }
 
@@ -82,14 +73,12 @@ impl Board {
         ensures after { ledger_of self.new ≡ retime_after (ledger_of self.old) number time }
         ensures kept { kept_day self.new ≡ kept_after (fault_of result) (kept_day self.old) }
     {
-        if !self.opened {
-            return Err(BoardFault::New);
-        }
-        if time > 14400 {
+        let _ = self.opened()?;
+        if time > LONGEST_TIME {
             return Err(BoardFault::Time);
         }
         let _ = standing_at(self.table.rows.as_slice(), number)?;
-        self.current = false;
+        self.day = None;
         let _ = self.table.retime(usize::from(number), time);
         Ok(())
     }
@@ -100,9 +89,7 @@ impl Board {
         ensures after { ledger_of self.new ≡ withdraw_after (ledger_of self.old) number }
         ensures kept { kept_day self.new ≡ kept_after (fault_of result) (kept_day self.old) }
     {
-        if !self.opened {
-            return Err(BoardFault::New);
-        }
+        let _ = self.opened()?;
         let _ = standing_at(self.table.rows.as_slice(), number)?;
         self.change(number, LedgerEvent::Withdraw);
         Ok(())
@@ -115,16 +102,14 @@ impl Board {
         ensures after { ledger_of self.new ≡ suspend_after (ledger_of self.old) number }
         ensures kept { kept_day self.new ≡ kept_after (fault_of result) (kept_day self.old) }
     {
-        if !self.opened {
-            return Err(BoardFault::New);
-        }
+        let opening = self.opened()?;
         let constraint = standing_at(self.table.rows.as_slice(), number)?;
         if !constraint.letter.is_suspendable() {
             return Err(BoardFault::NotSuspendable);
         }
         self.change(number, LedgerEvent::Suspend);
         Ok(Ticket {
-            mark: self.mark,
+            mark: opening.mark,
             number,
         })
     }
@@ -135,13 +120,10 @@ impl Board {
         ensures after { ledger_of self.new ≡ spend_after event (ledger_of self.old) ticket.mark ticket.number }
         ensures kept { kept_day self.new ≡ kept_spent event (spend_fault (ledger_of self.old) ticket.mark ticket.number) (kept_day self.old) }
     {
-        if !self.opened {
+        let Some(opening) = self.opening else {
             return Err((ticket, BoardFault::New));
-        }
-        if self.mark != ticket.mark {
-            return Err((ticket, BoardFault::Ticket));
-        }
-        if !is_suspended(self.table.rows.as_slice(), ticket.number) {
+        };
+        if opening.mark != ticket.mark || !is_suspended(self.table.rows.as_slice(), ticket.number) {
             return Err((ticket, BoardFault::Ticket));
         }
         self.change(ticket.number, event);

@@ -1,10 +1,12 @@
 // The board: one periodic timetable under its invariant. The struct stands here, and what it does in the modules below.
 #![tactic(auto)]
 
-ghost use Rattle.std.specs.Prelude.{◌≡◌, ◌≤◌, true, false, vec_len, vec_capacity};
+ghost use Rattle.std.specs.Prelude.{◌≡◌, ◌≤◌, true, None, vec_len, vec_capacity};
+ghost use Rattle.std.specs.Option.{ForSome, ForNone};
 ghost use Rattle.board.specs.Circuits.{NoFreeCircuit};
 ghost use Rattle.board.specs.Invariant.{opening_in_range, all_in_range, KeptHolds};
 
+use board_file::OpeningRecord;
 use delays::Cell;
 use timetable::ConstraintTable;
 
@@ -17,29 +19,40 @@ mod summary;
 mod view;
 
 pub use fault::BoardFault;
-pub use load::load_report;
 pub use summary::Summary;
+
+// The most events of a board, and the most recovery times between them.
+const MOST_EVENTS: usize = 32;
+
+const MOST_CELLS: usize = MOST_EVENTS * MOST_EVENTS;
+
+// The longest period and the longest time of a constraint, in seconds.
+const LONGEST_PERIOD: u32 = 86_400;
+
+const LONGEST_TIME: u16 = 14_400;
+
+// The most tokens of a constraint.
+const MOST_TOKENS: u8 = 7;
+
+// The mask of all seven days.
+const EVERY_DAY: u8 = 127;
 
 // A board is new until it is opened. All memory that it will ever want is reserved when it is made.
 #[derive(Drop)]
 pub struct Board {
-    opened: bool,
-    mark: u16,
-    events: u8,
-    period: u32,
+    opening: Option<OpeningRecord>,
     departures: Vec<u32>,
     table: ConstraintTable,
-    // whether the kept recovery table is that of the constraints standing on `day`
-    current: bool,
-    day: u8,
+    // the day of which `kept` is the recovery table
+    day: Option<u8>,
     kept: Vec<Cell>,
     ghost room: { (32 ≤ vec_capacity departures) × (128 ≤ vec_capacity table.rows) × (1024 ≤ vec_capacity kept) },
     ghost few: { vec_len table.rows ≤ 128 },
-    ghost opening: { (opened ≡ true → opening_in_range events period departures.items ≡ true) },
-    ghost ranges: { all_in_range events table.rows.items ≡ true },
+    ghost opened: { ForSome opening (λ o. opening_in_range o.events o.period departures.items ≡ true) },
+    ghost ranges: { ForSome opening (λ o. all_in_range o.events table.rows.items ≡ true) },
     ghost sound: { NoFreeCircuit table.rows.items },
-    ghost held: { KeptHolds current day departures.items period table.rows.items kept.items },
-    ghost blank: { (opened ≡ false → (vec_len table.rows ≡ 0) × (vec_len departures ≡ 0)) },
+    ghost held: { ForSome opening (λ o. KeptHolds day departures.items o.period table.rows.items kept.items) },
+    ghost blank: { ForNone opening ((vec_len table.rows ≡ 0) × (vec_len departures ≡ 0) × (day ≡ None)) },
 }
 
 // What a suspension hands out: the board's mark and the constraint's number. It can neither be copied nor let go, and only restoring or

@@ -1,6 +1,6 @@
 // Board files, one for each number that loading can answer.
 use crate::sample::{FILE, board_b};
-use board::{Board, Summary, load_report};
+use board::{Board, Summary};
 use faults::{Layer, Report};
 use std::alloc::Global;
 use std::process::Abort;
@@ -13,7 +13,7 @@ fn refused(rt: &impl Abort, heap: Global, bytes: &[u8]) -> Result<Report, Fail> 
         return Err(Fail::new("the file was loaded"));
     };
     assert_eq!(rt; board.summary(), None);
-    Ok(load_report(fault))
+    Ok(Report::from(fault))
 }
 
 fn report(layer: Layer, number: u8, place: usize) -> Report {
@@ -53,7 +53,7 @@ fn an_opened_board_is_not_loaded(rt: HostRuntime) -> Result<(), Fail> {
     let Err(fault) = board.load(&[9]) else {
         return Err(Fail::new("loaded twice"));
     };
-    assert_eq!(rt; load_report(fault), report(Layer::Board, 2, 0));
+    assert_eq!(rt; Report::from(fault), report(Layer::Board, 2, 0));
     Ok(())
 }
 

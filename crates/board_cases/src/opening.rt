@@ -1,6 +1,7 @@
 // Openings and their refusals.
 use crate::sample::opened;
 use board::{Board, BoardFault, Summary};
+use faults::Report;
 use std::test::Fail;
 
 #[test]
@@ -40,7 +41,7 @@ fn faults_report_their_numbers(rt: HostRuntime) -> Result<(), Fail> {
     let Err(fault) = board.open(1, 3, 3600, &[0, 1200, 2400]) else {
         return Err(Fail::new("opened twice"));
     };
-    assert_eq!(rt; fault.report().number, 2);
-    assert_eq!(rt; fault.report().place, 0);
+    assert_eq!(rt; Report::from(fault).number, 2);
+    assert_eq!(rt; Report::from(fault).place, 0);
     Ok(())
 }

@@ -1,5 +1,5 @@
 -- The bodies of records: what is read from a record's bytes is the record, and a body is the bytes of what is read from it.
-use Rattle.std.proofs.Common.{◌≡◌, ℕ, zero, suc, ◌+◌, ◌*◌, ◌<◌, List, [], ◌∷◌, ◌++◌, length, sym, refl, ap, ◌∙◌, arith}
+use Rattle.std.proofs.Common.{◌≡◌, ℕ, zero, suc, ◌*◌, ◌<◌, List, [], ◌∷◌, length, sym, refl, arith}
 use Rattle.std.proofs.lemmas.List.{nil_from_length}
 use Rattle.std.specs.List.{flat_map}
 use Rattle.timetable.specs.declared.Addition.{Addition}
@@ -33,7 +33,7 @@ opening_read =
     let he : e < 256 = small 4 in
     let hf : f < 256 = small 5 in
     let hg : g < 256 = small 6 in
-    ((ap (λ (l : List ℕ). l ++ c ∷ be32 ((d * 256 + e) * 65536 + (f * 256 + g))) (be16_two a b hb) ∙ ap (λ (l : List ℕ). a ∷ b ∷ c ∷ l) (be32_four d e f g he hf hg)), record { mark = omega arith; events = small 2; period = omega arith }))
+    (cc (be16_two a b hb, be32_four d e f g he hf hg), record { mark = omega arith; events = small 2; period = omega arith }))
 
 pub addition_written : (a : Addition) → addition_of (addition_body a) ≡ a
 addition_written a = rw (two_be16 a.time)
@@ -44,12 +44,11 @@ addition_read =
     (λ a b c d e f g small.
     let hc : c < 256 = small 2 in
     let hd : d < 256 = small 3 in
-    (ap (λ (l : List ℕ). a ∷ b ∷ (l ++ e ∷ f ∷ g ∷ [])) (be16_two c d hd), record { from = small 0; to = small 1; time = omega arith; tokens = small 4; days = small 5; letter = small 6 }))
+    (cc (be16_two c d hd), record { from = small 0; to = small 1; time = omega arith; tokens = small 4; days = small 5; letter = small 6 }))
 
 pub departures_written : (departures : List ℕ) → departures_of (length departures) (flat_map be32 departures) ≡ departures
 departures_written [] = refl
-departures_written (d ∷ departures) =
-    ap (λ n. n ∷ departures_of (length departures) (flat_map be32 departures)) (four_be32 d) ∙ ap (λ (l : List ℕ). d ∷ l) (departures_written departures)
+departures_written (d ∷ departures) = cc (four_be32 d, departures_written departures)
 
 pub length_departures_body : (departures : List ℕ) → length (flat_map be32 departures) ≡ 4 * length departures
 length_departures_body [] = refl
@@ -68,4 +67,4 @@ departures_read (suc n) (a ∷ b ∷ c ∷ d ∷ rest) h small =
     let hc : c < 256 = small 2 in
     let hd : d < 256 = small 3 in
     let further = departures_read n rest (omega arith) (λ i. small (suc (suc (suc (suc i))))) in
-    (ap (λ (l : List ℕ). l ++ flat_map be32 (departures_of n rest)) (be32_four a b c d hb hc hd) ∙ ap (λ (l : List ℕ). a ∷ b ∷ c ∷ d ∷ l) further.0, (omega arith, further.1))
+    (cc (be32_four a b c d hb hc hd), (omega arith, further.1))

@@ -1,7 +1,6 @@
 -- A file of bytes is loaded with a state exactly where it is the encoding of what leads to that state.
-use Rattle.std.proofs.Common.{◌≡◌, ℕ, zero, suc, ◌+◌, ◌-◌, ◌*◌, ◌≤◌, eqb, List, [], ◌∷◌, ◌++◌, length, drop, Some, None, Ok, Err, Option, Result, sym, refl, ap, ◌∙◌, arith}
+use Rattle.std.proofs.Common.{◌≡◌, ℕ, zero, suc, ◌+◌, ◌-◌, ◌*◌, ◌≤◌, List, [], ◌∷◌, ◌++◌, length, drop, Some, None, Ok, Err, Option, Result, sym, refl, ap, ◌∙◌, arith}
 use Rattle.std.proofs.lemmas.List.{drop_all, length-drop}
-use Rattle.std.proofs.lemmas.Bool.{cond-true, eq-eqb}
 use Rattle.std.proofs.lemmas.Bool.Decides.{nat_tests}
 use Rattle.timetable.specs.declared.Addition.{Addition}
 use Rattle.board_file.specs.declared.FrameFault.{FrameFault}
@@ -12,14 +11,14 @@ use Rattle.board_file.specs.declared.Entry.{Entry}
 use Rattle.board_file.specs.declared.Entry.TheVariants.{Add, End}
 use Rattle.board_file.specs.Frames.{end_at}
 use Rattle.board_file.specs.Records.{opening_at, departures_at, entry_at}
-use Rattle.board_file.specs.Encodings.{encode_opening, encode_departures, encode_entry, encode_end, encode_entries, Bytes, FitsAdditions}
+use Rattle.board_file.specs.Encodings.{encode_departures, encode_entries, Bytes, FitsAdditions}
 use Rattle.board_file.specs.Loading.{then_read, then_perform, then_judged, then_end, and_then, performed, after_entry, entries_from, after_departures, after_opening, load_file, Accepted, LoadsEncodings}
 use Rattle.board_file.proofs.Steps.{entries_more, entries_ended, load_begun}
 use Rattle.board_file.proofs.Readings.{opening_stands, departures_stand, addition_stands, end_stands, opening_is_written, departures_are_written, addition_is_written, end_is_written}
 
 -- the file ends at a place
 ends_at : (bytes : List ℕ) (place : ℕ) → place ≡ length bytes → end_at bytes place ≡ Ok tt
-ends_at bytes place e = cond-true (eqb place (length bytes)) _ _ (eq-eqb place (length bytes) e)
+ends_at bytes place e = grind (arith, nat_tests)
 
 -- where a file ends as it has to, its end is there
 end_from : (bytes : List ℕ) (place : ℕ) (u : Unit {0}) → end_at bytes place ≡ Ok u → place ≡ length bytes
@@ -39,49 +38,48 @@ module _ {S F : Type 0} (perform : S → Addition → Result S F) (bytes : List 
       → entries_from perform k bytes place s ≡ Ok last
   entries_stand k place s last [] h written e =
       let long : length bytes - place ≡ 3 = sym (length-drop place bytes) ∙ ap length written in
-      let same : s ≡ last = cc in
-      entries_ended perform bytes k place s h (end_stands bytes place written) (ends_at bytes (place + 3) (omega arith)) ∙ ap (λ (x : S). Ok x) same
+      entries_ended perform bytes k place s h (end_stands bytes place written) (ends_at bytes (place + 3) (omega arith)) ∙ cc
   entries_stand k place s last (a ∷ additions) h written e =
       let w = addition_stands bytes place a (encode_entries additions) written in
       let by : (p : Result S F) → perform s a ≡ p → and_then p (λ t. performed perform t additions) ≡ Ok last → entries_from perform k bytes place s ≡ Ok last =
       λ p. elim p as (λ v. perform s a ≡ v → and_then v (λ t. performed perform t additions) ≡ Ok last → entries_from perform k bytes place s ≡ Ok last) [
         | Ok t ↦ λ is rest. entries_more perform bytes k (length bytes) place s t a h (omega arith) w.0 is ∙ entries_stand (length bytes) (place + 10) t last additions (omega arith) w.1 rest
-        | Err f ↦ λ is rest. absurd (let z : ◌≡◌ {A = ℕ} 0 1 = cc in omega arith)
+        | Err f ↦ λ is rest. absurd cc
       ] in
       by (perform s a) refl e
 
   -- the end, with nothing behind it
   end_entered : (place : ℕ) (s last : S) → Bytes bytes → entry_at bytes place ≡ Ok End → (u : Result (Unit {0}) FrameFault) → end_at bytes (place + 3) ≡ u → then_end {F = F} u s ≡ Ok last → Entered place s last
-  end_entered place s last small is (Err e) ends h = absurd (let z : ◌≡◌ {A = ℕ} 0 1 = cc in omega arith)
+  end_entered place s last small is (Err e) ends h = absurd cc
   end_entered place s last small is (Ok u) ends h =
       let w = end_is_written bytes place small is in
       let none : drop (place + 3) bytes ≡ [] = drop_all (place + 3) bytes (omega (arith, end_from bytes (place + 3) u ends)) in
-      record { additions = []; fits = tt; written = w.0 ∙ ap (λ (l : List ℕ). encode_end ++ l) none; ended = cc }
+      record { additions = []; fits = tt; written = cc (w.0, none); ended = cc }
 
   -- an addition, and what follows it
   addition_entered : (place : ℕ) (s last : S) (a : Addition) (next : S → Result S (LoadFault F)) → Bytes bytes → entry_at bytes place ≡ Ok (Add a) → ((t : S) → next t ≡ Ok last → Entered (place + 10) t last)
       → (p : Result S F) → perform s a ≡ p → then_perform place p next ≡ Ok last → Entered place s last
-  addition_entered place s last a next small is further (Err f) made h = absurd (let z : ◌≡◌ {A = ℕ} 0 1 = cc in omega arith)
+  addition_entered place s last a next small is further (Err f) made h = absurd cc
   addition_entered place s last a next small is further (Ok t) made h =
       let w = addition_is_written bytes place a small is in
       let rest = further t h in
       record {
         additions = a ∷ rest.additions;
         fits = (w.1, rest.fits);
-        written = w.0 ∙ ap (λ (l : List ℕ). encode_entry a ++ l) rest.written;
-        ended = ap (λ (p : Result S F). and_then p (λ t. performed perform t rest.additions)) made ∙ rest.ended;
+        written = cc (w.0, rest.written);
+        ended = rw made rest.ended;
       }
 
   -- an entry, and what follows it
   entry_entered : (place : ℕ) (s last : S) (next : S → Result S (LoadFault F)) → Bytes bytes → ((t : S) → next t ≡ Ok last → Entered (place + 10) t last)
       → (q : Result Entry RecordFault) → entry_at bytes place ≡ q → then_read q (after_entry perform bytes place s next) ≡ Ok last → Entered place s last
-  entry_entered place s last next small further (Err e) is h = absurd (let z : ◌≡◌ {A = ℕ} 0 1 = cc in omega arith)
+  entry_entered place s last next small further (Err e) is h = absurd cc
   entry_entered place s last next small further (Ok End) is h = end_entered place s last small is (end_at bytes (place + 3)) refl h
   entry_entered place s last next small further (Ok (Add a)) is h = addition_entered place s last a next small is further (perform s a) refl h
 
   -- Entries that are read and performed to a state are additions whose bytes stand from the place on. By induction on the fuel.
   pub entries_are_written : (k place : ℕ) (s last : S) → Bytes bytes → entries_from perform k bytes place s ≡ Ok last → Entered place s last
-  entries_are_written zero place s last small h = absurd (let z : ◌≡◌ {A = ℕ} 0 1 = cc in omega arith)
+  entries_are_written zero place s last small h = absurd cc
   entries_are_written (suc k) place s last small h =
       entry_entered place s last (λ t. entries_from perform k bytes (place + 10) t) small (λ t g. entries_are_written k (place + 10) t last small g) (entry_at bytes place) refl h
 
@@ -98,7 +96,7 @@ module _ {S F : Type 0} (judge : OpeningRecord → Option F) (begin : OpeningRec
   -- from the entries back to the file
   begun_accepted : (o : OpeningRecord) (departures : List ℕ) → Bytes bytes → opening_at bytes 0 ≡ Ok o → judge o ≡ None → departures_at o.events bytes 10 ≡ Ok departures
       → (p : Result S F) → begin o departures ≡ p → then_perform 10 p (λ s. entries_from perform (length bytes) bytes (13 + 4 * o.events) s) ≡ Ok last → Accepted judge begin perform bytes last
-  begun_accepted o departures small opened judged read (Err f) begun h = absurd (let z : ◌≡◌ {A = ℕ} 0 1 = cc in omega arith)
+  begun_accepted o departures small opened judged read (Err f) begun h = absurd cc
   begun_accepted o departures small opened judged read (Ok first) begun h =
       let w = opening_is_written bytes o small opened in
       let v = departures_are_written bytes 10 o.events departures small read in
@@ -112,7 +110,7 @@ module _ {S F : Type 0} (judge : OpeningRecord → Option F) (begin : OpeningRec
         fits_departures = v.1;
         fits_additions = x.fits;
         counted = v.2;
-        encoded = w.0 ∙ ap (λ (l : List ℕ). encode_opening o ++ l) (v.0 ∙ ap (λ (l : List ℕ). encode_departures departures ++ l) x.written);
+        encoded = cc (w.0, v.0, x.written);
         judged = judged;
         begun = begun;
         ended = x.ended;
@@ -121,18 +119,18 @@ module _ {S F : Type 0} (judge : OpeningRecord → Option F) (begin : OpeningRec
   -- from the departures back to the file
   departures_accepted : (o : OpeningRecord) → Bytes bytes → opening_at bytes 0 ≡ Ok o → judge o ≡ None → (q : Result (List ℕ) RecordFault) → departures_at o.events bytes 10 ≡ q
       → then_read q (after_departures judge begin perform bytes o) ≡ Ok last → Accepted judge begin perform bytes last
-  departures_accepted o small opened judged (Err e) read h = absurd (let z : ◌≡◌ {A = ℕ} 0 1 = cc in omega arith)
+  departures_accepted o small opened judged (Err e) read h = absurd cc
   departures_accepted o small opened judged (Ok departures) read h = begun_accepted o departures small opened judged read (begin o departures) refl h
 
   -- from what is judged of the opening record back to the file
   judged_accepted : (o : OpeningRecord) → Bytes bytes → opening_at bytes 0 ≡ Ok o → (j : Option F) → judge o ≡ j → then_judged 0 j (then_read (departures_at o.events bytes 10) (after_departures judge begin perform bytes o)) ≡ Ok last
       → Accepted judge begin perform bytes last
-  judged_accepted o small opened (Some f) judged h = absurd (let z : ◌≡◌ {A = ℕ} 0 1 = cc in omega arith)
+  judged_accepted o small opened (Some f) judged h = absurd cc
   judged_accepted o small opened None judged h = departures_accepted o small opened judged (departures_at o.events bytes 10) refl h
 
   -- from the opening record back to the file
   opening_accepted : Bytes bytes → (q : Result OpeningRecord RecordFault) → opening_at bytes 0 ≡ q → then_read q (after_opening judge begin perform bytes) ≡ Ok last → Accepted judge begin perform bytes last
-  opening_accepted small (Err e) opened h = absurd (let z : ◌≡◌ {A = ℕ} 0 1 = cc in omega arith)
+  opening_accepted small (Err e) opened h = absurd cc
   opening_accepted small (Ok o) opened h = judged_accepted o small opened (judge o) refl h
 
   -- A file that is loaded is an encoding: no step stops it, and what each step reads stands there as its bytes, one behind the other.

@@ -3,6 +3,8 @@ use Rattle.std.specs.Prelude.{ℕ, ◌/◌, ◌%◌, ◌^◌, ◌<◌, List, [],
 use Rattle.std.specs.List.{flat_map, AllByRecursion}
 use Rattle.timetable.specs.declared.Addition.{Addition}
 use Rattle.board_file.specs.declared.OpeningRecord.{OpeningRecord}
+use Rattle.board_file.specs.declared.Tag.TheVariants as tag
+use Rattle.board_file.specs.Tags.{byte_of}
 
 -- a number as two bytes, the higher first
 abbrev pub be16 : ℕ → List ℕ
@@ -22,11 +24,11 @@ opening_body o = be16 o.mark ++ o.events ∷ be32 o.period
 
 -- the opening record as a field
 abbrev pub encode_opening : OpeningRecord → List ℕ
-encode_opening o = encode_field 1 (opening_body o)
+encode_opening o = encode_field (byte_of tag.Opening) (opening_body o)
 
 -- the departures as a field, four bytes each
 abbrev pub encode_departures : List ℕ → List ℕ
-encode_departures departures = encode_field 2 (flat_map be32 departures)
+encode_departures departures = encode_field (byte_of tag.Departures) (flat_map be32 departures)
 
 -- the seven bytes of an addition
 abbrev pub addition_body : Addition → List ℕ
@@ -34,11 +36,11 @@ addition_body a = a.from ∷ a.to ∷ be16 a.time ++ a.tokens ∷ a.days ∷ a.l
 
 -- an addition as a field
 abbrev pub encode_entry : Addition → List ℕ
-encode_entry a = encode_field 3 (addition_body a)
+encode_entry a = encode_field (byte_of tag.Addition) (addition_body a)
 
 -- the end as a field with no body
 abbrev pub encode_end : List ℕ
-encode_end = encode_field 4 []
+encode_end = encode_field (byte_of tag.End) []
 
 -- the additions one behind the other, and the end
 abbrev pub encode_entries : List Addition → List ℕ

@@ -4,3 +4,4 @@ pub mod Frames
 pub mod Loading
 pub mod Numbers
 pub mod Records
+pub mod Tags

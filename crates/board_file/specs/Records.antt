@@ -7,7 +7,9 @@ use Rattle.board_file.specs.declared.RecordFault.TheVariants.{Frame, Tag, Length
 use Rattle.board_file.specs.declared.OpeningRecord.{OpeningRecord}
 use Rattle.board_file.specs.declared.Entry.{Entry}
 use Rattle.board_file.specs.declared.Entry.TheVariants.{Add, End}
+use Rattle.board_file.specs.declared.Tag.TheVariants as tag
 use Rattle.board_file.specs.Numbers.{two_at, four_at}
+use Rattle.board_file.specs.Tags.{byte_of}
 use Rattle.board_file.specs.Frames.{Framed, field_at}
 
 -- what a field gives whose body has to have a length: a fault at its tag where it has not
@@ -21,7 +23,7 @@ opening_of body = record { mark = two_at body 0; events = slice_index body 2; pe
 -- the opening record in a field, which has tag 1
 abbrev pub opening_in : Result Framed FrameFault → Result OpeningRecord RecordFault
 opening_in (Err e) = Err (Frame e)
-opening_in (Ok f) = cond (f.tag == 1) (exact 7 (opening_of f.body) f) (Err (Tag f.place))
+opening_in (Ok f) = cond (f.tag == byte_of tag.Opening) (exact 7 (opening_of f.body) f) (Err (Tag f.place))
 
 -- the opening record of a file
 abbrev pub opening_at : List ℕ → ℕ → Result OpeningRecord RecordFault
@@ -35,7 +37,7 @@ departures_of (suc n) body = four_at body 0 ∷ departures_of n (drop 4 body)
 -- so many departures in a field, which has tag 2
 abbrev pub departures_in : ℕ → Result Framed FrameFault → Result (List ℕ) RecordFault
 departures_in n (Err e) = Err (Frame e)
-departures_in n (Ok f) = cond (f.tag == 2) (exact (4 * n) (departures_of n f.body) f) (Err (Tag f.place))
+departures_in n (Ok f) = cond (f.tag == byte_of tag.Departures) (exact (4 * n) (departures_of n f.body) f) (Err (Tag f.place))
 
 -- so many departures in the field at a place
 abbrev pub departures_at : ℕ → List ℕ → ℕ → Result (List ℕ) RecordFault
@@ -59,7 +61,7 @@ addition_of body =
 -- the entry in a field: an addition has tag 3, and the end has tag 4 and no body
 abbrev pub entry_in : Result Framed FrameFault → Result Entry RecordFault
 entry_in (Err e) = Err (Frame e)
-entry_in (Ok f) = cond (f.tag == 3) (exact 7 (Add (addition_of f.body)) f) (cond (f.tag == 4) (exact 0 End f) (Err (Tag f.place)))
+entry_in (Ok f) = cond (f.tag == byte_of tag.Addition) (exact 7 (Add (addition_of f.body)) f) (cond (f.tag == byte_of tag.End) (exact 0 End f) (Err (Tag f.place)))
 
 -- the entry at a place
 abbrev pub entry_at : List ℕ → ℕ → Result Entry RecordFault

@@ -2,11 +2,12 @@
 // layer below whole.
 #![tactic(auto)]
 
-ghost use Rattle.std.specs.Prelude.{◌≡◌, ◌+◌, ◌*◌, ◌<◌, ◌≤◌, length};
-ghost use Rattle.board_file.specs.declared.RecordFault.TheVariants.{Frame as FrameCase};
+ghost use Rattle.std.specs.Prelude.{◌≡◌, ◌≢◌, length, map, IfOk, IfErr};
+ghost use Rattle.board_file.specs.declared.RecordFault.TheVariants.{Frame as FrameCase, Length as LengthCase};
 ghost use Rattle.board_file.specs.declared.LoadFault.TheVariants.{Record as RecordCase};
-ghost use Rattle.board_file.specs.Faults.{frame_report, record_report};
-ghost use Rattle.board_file.specs.Numbers.{two_at, four_at};
+ghost use Rattle.board_file.specs.Faults.{frame_report, record_report, LoadReported};
+ghost use Rattle.board_file.specs.Numbers.{four_at};
+ghost use Rattle.board_file.specs.Tags.{tag_of};
 ghost use Rattle.board_file.specs.Frames.{framed, field_at, end_at};
 ghost use Rattle.board_file.specs.Records.{opening_of, opening_at, departures_of, departures_at, departures_reply, departures_after, addition_of, entry_at};
 
@@ -24,15 +25,19 @@ pub const DEPARTURE_LENGTH: usize = 4;
 pub const ADDITION_LENGTH: usize = 7;
 
 // The tags of the records, in the order in which they stand in a file.
-const OPENING_TAG: u8 = 1;
+#[derive(Clone, Copy, PartialEq, Eq, Debug)]
+pub enum Tag {
+    Opening,
+    Departures,
+    Addition,
+    End,
+}
 
-const DEPARTURES_TAG: u8 = 2;
+// A byte that is no tag.
+#[derive(Clone, Copy, PartialEq, Eq, Debug)]
+pub struct UnknownTag(pub u8);
 
-const ADDITION_TAG: u8 = 3;
-
-const END_TAG: u8 = 4;
-
-// A field of a file: where its tag stands, its tag, and its body.
+// A field of a file: where its tag stands, its tag's byte, which may be that of no tag, and its body.
 #[derive(Clone, Copy)]
 pub struct Field<'a> {
     pub place: usize,
@@ -70,11 +75,27 @@ pub struct OpeningRecord {
     pub period: u32,
 }
 
-// What follows the departures: an addition to the table, or the end.
+// What follows the departures: an addition to the table, or the end. It is no `Option`, since a further tag is a further case.
 #[derive(Clone, Copy, PartialEq, Eq, Debug)]
 pub enum Entry {
     Add(Addition),
     End,
+}
+
+impl TryFrom<u8> for Tag {
+    type Error = UnknownTag;
+
+    ghost try_from_gives = { λ byte tag. tag ≡ tag_of byte };
+
+    fn try_from(byte: u8) -> Result<Tag, UnknownTag> {
+        match byte {
+            1 => Ok(Tag::Opening),
+            2 => Ok(Tag::Departures),
+            3 => Ok(Tag::Addition),
+            4 => Ok(Tag::End),
+            _ => Err(UnknownTag(byte)),
+        }
+    }
 }
 
 impl From<FrameFault> for RecordFault {
@@ -101,12 +122,12 @@ impl<F> From<FrameFault> for LoadFault<F> {
     }
 }
 
-impl FrameFault {
-    // The fault's layer, number and place.
-    pub fn report(self) -> Report
-        ensures { result ≡ frame_report self }
-    {
-        let (number, place) = match self {
+// The fault's layer, number and place.
+impl From<FrameFault> for Report {
+    ghost from_gives = { λ fault report. report ≡ frame_report fault };
+
+    fn from(fault: FrameFault) -> Report {
+        let (number, place) = match fault {
             FrameFault::PastEnd(place) => (24, place),
             FrameFault::Trailing(place) => (27, place),
         };
@@ -118,13 +139,13 @@ impl FrameFault {
     }
 }
 
-impl RecordFault {
-    // The fault's layer, number and place.
-    pub fn report(self) -> Report
-        ensures { result ≡ record_report self }
-    {
-        let (number, place) = match self {
-            RecordFault::Frame(fault) => return fault.report(),
+// The fault's layer, number and place.
+impl From<RecordFault> for Report {
+    ghost from_gives = { λ fault report. report ≡ record_report fault };
+
+    fn from(fault: RecordFault) -> Report {
+        let (number, place) = match fault {
+            RecordFault::Frame(fault) => return Report::from(fault),
             RecordFault::Tag(place) => (25, place),
             RecordFault::Length(place) => (26, place),
         };
@@ -136,39 +157,43 @@ impl RecordFault {
     }
 }
 
-// The number of the two bytes at a place, the higher first.
-fn two_at(bytes: &[u8], place: usize) -> u16
-    requires { place + 2 ≤ length bytes.now }
-    ensures { result ≡ two_at bytes.now place }
-{
-    u16::from(bytes[place]) * 256 + u16::from(bytes[place + 1])
+// The layer, number and place of a load's fault: a fault of whoever performs the record keeps its layer and number, and has the
+// place of the record's tag.
+impl<F: Into<Report>> From<LoadFault<F>> for Report {
+    ghost from_gives = { λ fault report. LoadReported F.converts fault report };
+
+    fn from(fault: LoadFault<F>) -> Report {
+        match fault {
+            LoadFault::Record(fault) => Report::from(fault),
+            LoadFault::Judged { place, fault } => Report {
+                place,
+                ..fault.into()
+            },
+        }
+    }
 }
 
-// The number of the four bytes at a place, the highest first.
-fn four_at(bytes: &[u8], place: usize) -> u32
-    requires { place + 4 ≤ length bytes.now }
-    ensures { result ≡ four_at bytes.now place }
-{
-    u32::from(two_at(bytes, place)) * 65536 + u32::from(two_at(bytes, place + 2))
+impl<'a> Field<'a> {
+    // The body, which has to have a length: a fault at the tag where it has not.
+    fn exact_body<const N: usize>(&self) -> Result<&'a [u8; N], RecordFault>
+        ensures whole { IfOk result (λ body. (body.now ≡ self.now.body.now) × (length self.now.body.now ≡ N)) }
+        ensures fault { IfErr result (λ fault. (fault ≡ LengthCase self.now.place) × (length self.now.body.now ≢ N)) }
+    {
+        self.body.as_array().ok_or(RecordFault::Length(self.place))
+    }
 }
 
 // The field whose tag stands at `place`, or the fault that the file ends before the field does.
 pub fn field_at(bytes: &[u8], place: usize) -> Result<Field<'_>, FrameFault>
     ensures { framed result ≡ field_at bytes.now place }
 {
-    if place >= bytes.len() || bytes.len() - place < HEADER {
-        return Err(FrameFault::PastEnd(place));
-    }
-    let from = place + HEADER;
-    let long = usize::from(two_at(bytes, place + 1));
-    if bytes.len() - from < long {
-        return Err(FrameFault::PastEnd(place));
-    }
-    Ok(Field {
-        place,
-        tag: bytes[place],
-        body: &bytes[from..from + long],
-    })
+    let past_end = FrameFault::PastEnd(place);
+    let field = bytes.get(place..).ok_or(past_end)?;
+    let (header, behind) = field.split_first_chunk::<HEADER>().ok_or(past_end)?;
+    let [tag, high, low] = *header;
+    let length = usize::from(u16::from_be_bytes([high, low]));
+    let body = behind.get(..length).ok_or(past_end)?;
+    Ok(Field { place, tag, body })
 }
 
 // Whether the file ends at `place`: bytes behind the last field are a fault.
@@ -182,15 +207,15 @@ pub fn read_end(bytes: &[u8], place: usize) -> Result<(), FrameFault>
     }
 }
 
-// The opening record in a body of seven bytes.
-fn opening_of(body: &[u8]) -> OpeningRecord
-    requires { length body.now ≡ 7 }
+// The opening record in its body.
+fn opening_of(body: &[u8; OPENING_LENGTH]) -> OpeningRecord
     ensures { result ≡ opening_of body.now }
 {
+    let [high, low, events, first, second, third, fourth] = *body;
     OpeningRecord {
-        mark: two_at(body, 0),
-        events: body[2],
-        period: four_at(body, 3),
+        mark: u16::from_be_bytes([high, low]),
+        events,
+        period: u32::from_be_bytes([first, second, third, fourth]),
     }
 }
 
@@ -199,27 +224,26 @@ pub fn read_opening(bytes: &[u8]) -> Result<OpeningRecord, RecordFault>
     ensures { result ≡ opening_at bytes.now 0 }
 {
     let field = field_at(bytes, 0)?;
-    if field.tag != OPENING_TAG {
+    let Ok(Tag::Opening) = Tag::try_from(field.tag) else {
         return Err(RecordFault::Tag(field.place));
-    }
-    if field.body.len() != OPENING_LENGTH {
-        return Err(RecordFault::Length(field.place));
-    }
-    Ok(opening_of(field.body))
+    };
+    Ok(opening_of(field.exact_body()?))
 }
 
-// Writes the departures in a body of four bytes each.
-fn fill_departures(body: &[u8], departures: &mut [u32])
-    requires { length body.now ≡ 4 * length departures.old }
-    ensures { departures.new ≡ departures_of (length departures.old) body.now }
+// Writes the departures, each from its four bytes.
+fn fill_departures(bodies: &[[u8; DEPARTURE_LENGTH]], departures: &mut [u32])
+    requires { length bodies.now ≡ length departures.old }
+    ensures { departures.new ≡ map (λ body. four_at body 0) bodies.now }
 {
+    // The index is `enumerate`'s, since nothing is known of what a loop over a `zip` of `iter_mut` writes.
     for (i, departure) in departures.iter_mut().enumerate() {
-        *departure = four_at(body, DEPARTURE_LENGTH * i);
+        *departure = u32::from_be_bytes(bodies[i]);
     }
 }
 
 // The departures, in the field with tag 2 at `place`: as many as the slice has places, which is left as it was where the field
 // is none that is due.
+#[tactic(auto, using(crate::proofs::Departures::departures_in_chunks))]
 pub fn read_departures(
     bytes: &[u8],
     place: usize,
@@ -229,30 +253,30 @@ pub fn read_departures(
     ensures after { departures.new ≡ departures_after (departures_at (length departures.old) bytes.now place) departures.old }
 {
     let field = field_at(bytes, place)?;
-    if field.tag != DEPARTURES_TAG {
+    let Ok(Tag::Departures) = Tag::try_from(field.tag) else {
         return Err(RecordFault::Tag(field.place));
+    };
+    match field.body.as_chunks::<DEPARTURE_LENGTH>() {
+        (bodies, []) if bodies.len() == departures.len() => {
+            fill_departures(bodies, departures);
+            Ok(())
+        }
+        _ => Err(RecordFault::Length(field.place)),
     }
-    if field.body.len() % DEPARTURE_LENGTH != 0
-        || field.body.len() / DEPARTURE_LENGTH != departures.len()
-    {
-        return Err(RecordFault::Length(field.place));
-    }
-    fill_departures(field.body, departures);
-    Ok(())
 }
 
-// The addition in a body of seven bytes.
-fn addition_of(body: &[u8]) -> Addition
-    requires { length body.now ≡ 7 }
+// The addition in its body.
+fn addition_of(body: &[u8; ADDITION_LENGTH]) -> Addition
     ensures { result ≡ addition_of body.now }
 {
+    let [from, to, high, low, tokens, days, letter] = *body;
     Addition {
-        from: body[0],
-        to: body[1],
-        time: two_at(body, 2),
-        tokens: body[4],
-        days: body[5],
-        letter: body[6],
+        from,
+        to,
+        time: u16::from_be_bytes([high, low]),
+        tokens,
+        days,
+        letter,
     }
 }
 
@@ -261,12 +285,9 @@ pub fn read_entry(bytes: &[u8], place: usize) -> Result<Entry, RecordFault>
     ensures { result ≡ entry_at bytes.now place }
 {
     let field = field_at(bytes, place)?;
-    match field.tag {
-        ADDITION_TAG if field.body.len() == ADDITION_LENGTH => Ok(Entry::Add(addition_of(
-            field.body,
-        ))),
-        END_TAG if field.body.len() == 0 => Ok(Entry::End),
-        ADDITION_TAG | END_TAG => Err(RecordFault::Length(field.place)),
+    match Tag::try_from(field.tag) {
+        Ok(Tag::Addition) => Ok(Entry::Add(addition_of(field.exact_body()?))),
+        Ok(Tag::End) => field.exact_body::<0>().map(|_| Entry::End),
         _ => Err(RecordFault::Tag(field.place)),
     }
 }

@@ -1,8 +1,9 @@
 // Worked cases on a small file, whole and cut or altered in one place.
 use crate::{
-    Entry, FrameFault, OpeningRecord, RecordFault, read_departures, read_end, read_entry,
-    read_opening,
+    Entry, FrameFault, LoadFault, OpeningRecord, RecordFault, Tag, UnknownTag, read_departures,
+    read_end, read_entry, read_opening,
 };
+use faults::{Layer, Report};
 use timetable::Addition;
 
 // Three events and a period of an hour, departures every twenty minutes, four additions, and the end.
@@ -62,8 +63,30 @@ fn refuses_what_is_not_due(rt: HostRuntime) {
 
 #[test]
 fn reports_layer_number_and_place(rt: HostRuntime) {
-    let report = RecordFault::Frame(FrameFault::PastEnd(65)).report();
-    assert_eq!(rt; report.layer, faults::Layer::Frame);
+    let report = Report::from(RecordFault::Frame(FrameFault::PastEnd(65)));
+    assert_eq!(rt; report.layer, Layer::Frame);
     assert_eq!(rt; report.number, 24);
     assert_eq!(rt; report.place, 65);
+}
+
+#[test]
+fn reports_a_judged_record_at_its_tag(rt: HostRuntime) {
+    let fault = LoadFault::Judged {
+        place: 10,
+        fault: FrameFault::Trailing(68),
+    };
+    let report = Report {
+        layer: Layer::Frame,
+        number: 27,
+        place: 10,
+    };
+    assert_eq!(rt; Report::from(fault), report);
+}
+
+#[test]
+fn tags_are_1_to_4(rt: HostRuntime) {
+    assert_eq!(rt; Tag::try_from(0), Err(UnknownTag(0)));
+    assert_eq!(rt; Tag::try_from(1), Ok(Tag::Opening));
+    assert_eq!(rt; Tag::try_from(4), Ok(Tag::End));
+    assert_eq!(rt; Tag::try_from(5), Err(UnknownTag(5)));
 }

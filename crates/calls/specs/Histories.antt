@@ -1,15 +1,16 @@
 -- The plain ledger over calls: the fault that each call gets, what it replies and what it leaves; and the same of a list of calls in order.
-use Rattle.std.specs.Prelude.{List, [], ◌∷◌, Some, None, vec_items, Option}
+use Rattle.std.specs.Prelude.{List, [], ◌∷◌, Some, None, Ok, Err, vec_items, Option, Result}
 use Rattle.std.specs.Option.{option_map}
 use Rattle.timetable.specs.declared.LedgerEvent.TheVariants as event
 use Rattle.board.specs.Ledger.{Ledger, open_fault, open_after, add_fault, add_after, next_number, retime_fault, retime_after, withdraw_fault, withdraw_after, suspend_fault, suspend_after, mark_of, spend_fault, spend_after}
 use Rattle.board.specs.Loads.{load_fault, load_after}
+use Rattle.calls.specs.declared.Answer.{Answer}
+use Rattle.calls.specs.declared.Answer.TheVariants as answer
 use Rattle.calls.specs.declared.Call.{Call}
 use Rattle.calls.specs.declared.Call.TheVariants as call
 use Rattle.calls.specs.declared.CallFault.{CallFault}
 use Rattle.calls.specs.declared.CallFault.TheVariants as fault
 use Rattle.calls.specs.declared.Reply.{Reply}
-use Rattle.calls.specs.declared.Reply.TheVariants as reply
 
 -- the fault that a call gets for what the ledger holds, or none
 abbrev pub call_fault : Ledger → Call → Option CallFault
@@ -33,25 +34,24 @@ call_after l (call.Suspend number) = suspend_after l number
 call_after l (call.Restore mark number) = spend_after event.Restore l mark number
 call_after l (call.Dismiss mark number) = spend_after event.Dismiss l mark number
 
--- the reply to a call that is accepted: an addition's number, a suspension's ticket
-abbrev pub accepted_reply : Ledger → Call → Reply
-accepted_reply l (call.Open mark events period departures) = reply.Done
-accepted_reply l (call.Load bytes) = reply.Done
-accepted_reply l (call.Add addition) = reply.Number (next_number l)
-accepted_reply l (call.Retime number time) = reply.Done
-accepted_reply l (call.Withdraw number) = reply.Done
-accepted_reply l (call.Suspend number) = reply.Ticket (mark_of l) number
-accepted_reply l (call.Restore mark number) = reply.Done
-accepted_reply l (call.Dismiss mark number) = reply.Done
+-- what a call answers when it is accepted: an addition its number, a suspension its ticket, and every other that it is done
+abbrev pub accepted_answer : Ledger → Call → Answer
+accepted_answer l (call.Add addition) = answer.Number (next_number l)
+accepted_answer l (call.Suspend number) = answer.Ticket (mark_of l) number
+accepted_answer l _ = answer.Done
 
--- a refusal with the fault, where there is one
-abbrev pub unless_fault : Option CallFault → Reply → Reply
-unless_fault None r = r
-unless_fault (Some f) r = reply.Refused f
+-- a refusal with the fault, where there is one, else the answer
+abbrev pub unless_fault : Option CallFault → Answer → Result Answer CallFault
+unless_fault None a = Ok a
+unless_fault (Some f) a = Err f
+
+-- what a call answers, or its fault
+abbrev pub outcome_of : Ledger → Call → Result Answer CallFault
+outcome_of l c = unless_fault (call_fault l c) (accepted_answer l c)
 
 -- the reply to a call
 abbrev pub reply_to : Ledger → Call → Reply
-reply_to l c = unless_fault (call_fault l c) (accepted_reply l c)
+reply_to l c = record { 0 = outcome_of l c }
 
 -- what the ledger holds after a list of calls, in order
 abbrev pub ledger_through : Ledger → List Call → Ledger

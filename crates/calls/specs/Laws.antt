@@ -1,5 +1,5 @@
 -- What holds of every list of calls.
-use Rattle.std.specs.Prelude.{◌≡◌, ℕ, ◌+◌, Bool, true, false, cond, ◌&&◌, List, [], ◌∷◌, ◌++◌}
+use Rattle.std.specs.Prelude.{◌≡◌, ℕ, ◌+◌, Bool, true, false, ◌&&◌, List, ◌++◌, count_by, zip}
 use Rattle.timetable.specs.declared.Constraint.{Constraint}
 use Rattle.timetable.specs.Words.{suspended}
 use Rattle.board.specs.Ledger.{Ledger, nothing, holding}
@@ -11,8 +11,7 @@ use Rattle.calls.specs.Histories.{call_after, reply_to, ledger_through, replies_
 
 -- how many rows are suspended
 abbrev pub suspended_rows : List Constraint → ℕ
-suspended_rows [] = 0
-suspended_rows (c ∷ rows) = cond (suspended c.state) 1 0 + suspended_rows rows
+suspended_rows rows = count_by (λ c. suspended c.state) rows
 
 -- how many constraints are suspended now
 abbrev pub now_suspended : Ledger → ℕ
@@ -21,42 +20,22 @@ now_suspended (holding h) = suspended_rows h.rows
 
 -- a call that suspends
 abbrev pub is_suspension : Call → Bool
-is_suspension (call.Open mark events period departures) = false
-is_suspension (call.Load bytes) = false
-is_suspension (call.Add addition) = false
-is_suspension (call.Retime number time) = false
-is_suspension (call.Withdraw number) = false
 is_suspension (call.Suspend number) = true
-is_suspension (call.Restore mark number) = false
-is_suspension (call.Dismiss mark number) = false
+is_suspension _ = false
 
 -- a call that restores
 abbrev pub is_restoration : Call → Bool
-is_restoration (call.Open mark events period departures) = false
-is_restoration (call.Load bytes) = false
-is_restoration (call.Add addition) = false
-is_restoration (call.Retime number time) = false
-is_restoration (call.Withdraw number) = false
-is_restoration (call.Suspend number) = false
 is_restoration (call.Restore mark number) = true
-is_restoration (call.Dismiss mark number) = false
+is_restoration _ = false
 
 -- a call that dismisses
 abbrev pub is_dismissal : Call → Bool
-is_dismissal (call.Open mark events period departures) = false
-is_dismissal (call.Load bytes) = false
-is_dismissal (call.Add addition) = false
-is_dismissal (call.Retime number time) = false
-is_dismissal (call.Withdraw number) = false
-is_dismissal (call.Suspend number) = false
-is_dismissal (call.Restore mark number) = false
 is_dismissal (call.Dismiss mark number) = true
+is_dismissal _ = false
 
 -- how many calls of a kind were accepted
 abbrev pub accepted_calls : (Call → Bool) → List Call → List Reply → ℕ
-accepted_calls kind [] replies = 0
-accepted_calls kind (c ∷ calls) [] = 0
-accepted_calls kind (c ∷ calls) (r ∷ replies) = cond (kind c && accepted r) 1 0 + accepted_calls kind calls replies
+accepted_calls kind calls replies = count_by (λ p. kind p.0 && accepted p.1) (zip calls replies)
 
 -- what holds of a list of calls from what the ledger held before: a refused call changes nothing; performing two lists in turn is performing
 -- one behind the other; and accepted suspensions, with what was suspended before, are accepted restorations and accepted

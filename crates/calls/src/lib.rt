@@ -2,16 +2,17 @@
 #![tactic(auto)]
 
 ghost use Rattle.std.specs.Prelude.{◌≡◌, Some};
-ghost use Rattle.calls.specs.Replies.{call_report, accepted, reply_text};
+ghost use Rattle.calls.specs.declared.CallFault.TheVariants.{Board as ByBoard, Load as ByLoad};
+ghost use Rattle.calls.specs.Replies.{call_report, accepted, answer_text, reply_text};
 
-use board::{BoardFault, load_report};
+use board::BoardFault;
 use board_file::LoadFault;
 use faults::Report;
 use std::fmt;
 use timetable::Addition;
 
 // A call of a board: opening it or loading it from a file's bytes, and the changes of its constraints. A restoration or a dismissal names its
-// ticket by mark and number.
+// ticket by mark and number: two fields, as a script spells them, and no type that would only be packed and taken apart.
 #[derive(Drop)]
 pub enum Call {
     Open {
@@ -44,30 +45,49 @@ pub enum Call {
     },
 }
 
+// What an accepted call answers: done; the number of the constraint added; or mark and number of the ticket of the constraint suspended.
+#[derive(Clone, Copy, PartialEq, Eq, Debug)]
+pub enum Answer {
+    Done,
+    Number(u16),
+    Ticket { mark: u16, number: u16 },
+}
+
 // Why a call is refused: by a rule of the board, or by what a load found, whole.
-#[derive(Clone, Copy)]
+#[derive(Clone, Copy, PartialEq, Debug)]
 pub enum CallFault {
     Board(BoardFault),
     Load(LoadFault<BoardFault>),
 }
 
-// The reply to a call: done; the number of the constraint added; mark and number of the ticket of the constraint suspended; or refused.
-#[derive(Clone, Copy)]
-pub enum Reply {
-    Done,
-    Number(u16),
-    Ticket { mark: u16, number: u16 },
-    Refused(CallFault),
+// The reply to a call: what it answers, or why it is refused.
+#[derive(Clone, Copy, PartialEq, Debug)]
+pub struct Reply(pub Result<Answer, CallFault>);
+
+impl From<BoardFault> for CallFault {
+    ghost from_gives = { λ fault call_fault. call_fault ≡ ByBoard fault };
+
+    fn from(fault: BoardFault) -> Self {
+        Self::Board(fault)
+    }
 }
 
-impl CallFault {
-    // The fault's layer, number and place.
-    pub fn report(self) -> Report
-        ensures { result ≡ call_report self }
-    {
-        match self {
-            CallFault::Board(fault) => fault.report(),
-            CallFault::Load(fault) => load_report(fault),
+impl From<LoadFault<BoardFault>> for CallFault {
+    ghost from_gives = { λ fault call_fault. call_fault ≡ ByLoad fault };
+
+    fn from(fault: LoadFault<BoardFault>) -> Self {
+        Self::Load(fault)
+    }
+}
+
+// The fault's layer, number and place.
+impl From<CallFault> for Report {
+    ghost from_gives = { λ fault report. report ≡ call_report fault };
+
+    fn from(fault: CallFault) -> Self {
+        match fault {
+            CallFault::Board(fault) => Report::from(fault),
+            CallFault::Load(fault) => Report::from(fault),
         }
     }
 }
@@ -77,11 +97,18 @@ impl Reply {
     pub fn is_accepted(self) -> bool
         ensures { result ≡ accepted self }
     {
+        self.0.is_ok()
+    }
+}
+
+impl fmt::Display for Answer {
+    ghost output = { λ answer. Some (answer_text answer) };
+
+    fn fmt<W: fmt::Write>(&self, f: &mut fmt::Formatter<W>) -> fmt::Result {
         match self {
-            Reply::Done => true,
-            Reply::Number(_) => true,
-            Reply::Ticket { mark: _, number: _ } => true,
-            Reply::Refused(_) => false,
+            Answer::Done => f.write_str("ok"),
+            Answer::Number(number) => write!(f, "number {number}"),
+            Answer::Ticket { mark, number } => write!(f, "ticket {mark} {number}"),
         }
     }
 }
@@ -90,12 +117,10 @@ impl fmt::Display for Reply {
     ghost output = { λ reply. Some (reply_text reply) };
 
     fn fmt<W: fmt::Write>(&self, f: &mut fmt::Formatter<W>) -> fmt::Result {
-        match *self {
-            Reply::Done => f.write_str("ok"),
-            Reply::Number(number) => write!(f, "number {number}"),
-            Reply::Ticket { mark, number } => write!(f, "ticket {mark} {number}"),
-            Reply::Refused(fault) => {
-                let report = fault.report();
+        match self.0 {
+            Ok(answer) => write!(f, "{answer}"),
+            Err(fault) => {
+                let report = Report::from(fault);
                 write!(f, "refused {report}")
             }
         }

@@ -1,4 +1,6 @@
+pub mod Outcomes
 pub mod Rises
+pub mod WeighedLists
 pub mod Walks
 pub mod Ratios
 pub mod Potentials

@@ -1,7 +1,6 @@
 -- What the ranges of a net's arcs give the searches.
-use Rattle.std.proofs.Common.{◌≡◌, ℕ, ◌<◌, ◌≤◌, Bool, true, ◌&&◌, ltb, leb, List, [], ◌∷◌, ◌++◌, ℤ, pos, negsuc, nat_abs, ◌≤ℤ◌, ◌<ℤ◌, sym, refl, ap, ◌∙◌, subst, arith, ltb-true, leb-true}
+use Rattle.std.proofs.Common.{◌≡◌, ℕ, ◌<◌, ◌≤◌, Bool, true, ◌&&◌, ltb, leb, List, [], ◌∷◌, ◌++◌, length, ℤ, pos, negsuc, nat_abs, ◌≤ℤ◌, ◌<ℤ◌, sym, refl, ap, ◌∙◌, subst, arith, ltb-true, leb-true}
 use lib.Signed.{le_z}
-use Rattle.std.proofs.lemmas.List.{length-take}
 use Rattle.std.proofs.lemmas.Int.{ints}
 use Rattle.runs.specs.Tables.{in_range, every}
 use Rattle.runs.proofs.Searches.{and_both, and_first, and_second}
@@ -11,7 +10,7 @@ use Rattle.circuits.specs.declared.WeighedCircuit.{WeighedCircuit}
 use Rattle.circuits.specs.Arcs.{arc_in_range, ArcsBelow, ArcsFit, CircuitOf, numbers_of, gain_of, cost_of, sum}
 use Rattle.circuits.specs.Turns.{TurnsToLowest, ShownTurned}
 use Rattle.circuits.specs.Ratios.{OwnSums, NoneBetter, LargestRatio, GainsForNothing}
-use Rattle.circuits.proofs.Turns.{turned_sum, turned_is_circuit}
+use Rattle.circuits.proofs.Turns.{turned_length, turned_sum, turned_is_circuit}
 
 from_leZ : (a b : ℤ) → le_z a b ≡ true → a ≤ℤ b
 from_leZ a b h = grind (arith, ints)
@@ -50,10 +49,6 @@ module _ (n : ℕ) where
   pub events_range : in_range n ≡ true → (0 < n) × (n ≤ 32)
   events_range e = (leb-true 1 n (and_first (leb 1 n) (leb n 32) e), leb-true n 32 (and_second (leb 1 n) (leb n 32) e))
 
--- a circuit has an arc
-pub some_arcs : (arcs : List Arc) (c : Circuit) → CircuitOf arcs (numbers_of c) → 0 < c.len
-some_arcs arcs c is = omega (arith, length-take c.len c.arcs, is.circuit.1)
-
 -- a circuit turned keeps its sums
 module _ (arcs : List Arc) (before after : Circuit) (t : TurnsToLowest before after) where
   pub still_circuit : CircuitOf arcs (numbers_of before) → CircuitOf arcs (numbers_of after)
@@ -65,7 +60,7 @@ module _ (arcs : List Arc) (before after : Circuit) (t : TurnsToLowest before af
 pub still_own : (arcs : List Arc) (x y : WeighedCircuit) → ShownTurned x y → OwnSums arcs x → OwnSums arcs y
 still_own arcs x y t o = record {
   circuit = still_circuit arcs x.circuit y.circuit t.turned o.circuit;
-  short = subst (λ n. n ≤ 32) (sym t.turned.len) o.short;
+  short = omega (arith, o.short, ap length t.turned.numbers, turned_length t.turned.place (numbers_of x.circuit));
   gains = t.gain ∙ o.gains ∙ sym (still_sum arcs x.circuit y.circuit t.turned (gain_of arcs));
   costs = t.cost ∙ o.costs ∙ sym (still_sum arcs x.circuit y.circuit t.turned (cost_of arcs));
 }

@@ -1,8 +1,6 @@
 -- Sums over circuits, and the measure of a rising ratio.
-use Rattle.std.proofs.Common.{◌≡◌, ℕ, zero, suc, ◌+◌, ◌-◌, ◌*◌, ◌/◌, ◌<◌, ◌≤◌, List, [], ◌∷◌, ◌++◌, length, take, set, replicate, ℤ, pos, negsuc, ◌+ℤ◌, ◌-ℤ◌, ◌*ℤ◌, neg_ℤ, nat_abs, ◌≤ℤ◌, ◌<ℤ◌, Some, None, Ok, Err, Option, sym, refl, ap, ◌∙◌, subst, mul-le-mul_right, mul_comm, add-mul, mul-le-mul, mul_right_comm, div-mul-le_self, le_of_mul-le-mul_right, arith, w64, SFits, to_z, of_z, below_more, MatchOption}
-use native.Mathlib.Decide.{ℕ_discrete, dec_lt}
-use Rattle.std.proofs.lemmas.List.{get_or-take, length-take-le, get_or-replicate, length-replicate, get_or_past, get_or-set_same, get_or-set_other}
-use Rattle.circuits.specs.Rounds.{at, WeightsFit}
+use Rattle.std.proofs.Common.{◌≡◌, ℕ, suc, ◌+◌, ◌-◌, ◌*◌, ◌/◌, ◌<◌, ◌≤◌, List, [], ◌∷◌, ◌++◌, length, ℤ, pos, negsuc, ◌+ℤ◌, ◌-ℤ◌, ◌*ℤ◌, neg_ℤ, nat_abs, ◌≤ℤ◌, ◌<ℤ◌, Some, None, Ok, Option, sym, refl, ap, ◌∙◌, subst, mul-le-mul_right, mul_comm, add-mul, mul-le-mul, mul_right_comm, div-mul-le_self, le_of_mul-le-mul_right, arith, w64, SFits, to_z, of_z, MatchOption}
+use Rattle.circuits.specs.Rounds.{at}
 use lib.IntN.{*ℤ_comm}
 use borrow.Author.Differences.{up, down, sum_is_lem}
 use Rattle.std.specs.List.{AllByRecursion}
@@ -17,7 +15,7 @@ use Rattle.circuits.specs.Searches.{SettledRow}
 use Rattle.circuits.proofs.Rises.{arc_inside, none_gains}
 use Rattle.circuits.specs.declared.Circuit.{Circuit}
 use Rattle.circuits.specs.declared.WeighedCircuit.{WeighedCircuit}
-use Rattle.circuits.specs.Walks.{nth, GainingCircuit, NoneGains}
+use Rattle.circuits.specs.Walks.{GainingCircuit, NoneGains}
 
 pub times_add : (x y b : ℤ) → (x +ℤ y) *ℤ b ≡ (x *ℤ b) +ℤ (y *ℤ b)
 times_add x y b =
@@ -45,6 +43,10 @@ times_small x y m n h k = rw (natAbs_times x y) (mul-le-mul h k)
 pub goes_inside : (arcs : List Arc) (i j : ℕ) (r : List ℕ) → IsRun (arcs_net arcs) i j r → AllByRecursion (λ a. a < length arcs) r
 goes_inside arcs i j [] g = tt
 goes_inside arcs i j (a ∷ r) g = (arc_inside arcs a g.0, goes_inside arcs (end_of arcs a) j r g.2)
+
+-- the arcs of a circuit are those of the net
+pub circuit_known : (arcs : List Arc) (r : List ℕ) → CircuitOf arcs r → AllByRecursion (λ a. a < length arcs) r
+circuit_known arcs r c = goes_inside arcs c.event c.event r c.circuit.0
 
 pub sum_same : (f g : ℕ → ℤ) (m : ℕ) → ((a : ℕ) → a < m → f a ≡ g a) → (r : List ℕ) → AllByRecursion (λ a. a < m) r → sum f r ≡ sum g r
 sum_same f g m e [] h = refl
@@ -118,31 +120,11 @@ rank_small gain (pos C) f =
     div_small (shifted gain (pos C) * 50176) 3448068464705536 C c (omega (arith, ints))
 rank_small gain (negsuc C) f = absurd (omega (arith, ints, f.cost_some))
 
-pub zeros_modest : (n k : ℕ) → nat_abs (at (replicate n (pos 0)) k) ≤ 1099511627776
-zeros_modest n k = elim (dec_lt k n) [
-  | yes p ↦ omega (arith, ints, get_or-replicate n k (pos 0) (pos 0) p)
-  | no p ↦ let past : length (replicate n (pos 0)) ≤ k = omega (arith, length-replicate n (pos 0)) in omega (arith, ints, get_or_past (replicate n (pos 0)) k (pos 0) past)
-]
-
--- one more weight is written
-pub writes_more : (f : ℕ → ℤ) (ws : List ℤ) (k : ℕ) (x : ℤ) → k < length ws → x ≡ f k → nat_abs x ≤ 1099511627776
-    → ((t : ℕ) → t < k → at ws t ≡ f t) × WeightsFit ws → ((t : ℕ) → t < k + 1 → at (set ws k x) t ≡ f t) × WeightsFit (set ws k x)
-writes_more f ws k x lt e small h = (
-  below_more (λ t. at (set ws k x) t ≡ f t) k (λ t l. get_or-set_other ws k t x (pos 0) (λ z. omega arith) ∙ h.0 t l) (get_or-set_same ws k x (pos 0) lt ∙ e),
-  λ t. elim (ℕ_discrete t k) [
-    | yes same ↦ subst (λ y. nat_abs (at (set ws k x) y) ≤ 1099511627776) (sym same) (subst (λ y. nat_abs y ≤ 1099511627776) (sym (get_or-set_same ws k x (pos 0) lt)) small)
-    | no ne ↦ subst (λ y. nat_abs y ≤ 1099511627776) (sym (get_or-set_other ws k t x (pos 0) ne)) (h.1 t)
-  ],
-)
-
 pub back : (z : ℤ) → nat_abs z ≤ 34359738368 → to_z w64 (of_z w64 z) ≡ z
 back z h = omega (arith, ints)
 
 pub product_back : (x y : ℤ) → nat_abs x ≤ 34359738368 → nat_abs y ≤ 34359738368 → to_z w64 (of_z w64 x) *ℤ to_z w64 (of_z w64 y) ≡ x *ℤ y
 product_back x y hx hy = ap (λ u. u *ℤ to_z w64 (of_z w64 y)) (back x hx) ∙ ap (λ u. x *ℤ u) (back y hy)
-
-pub small_fits : (X : ℤ) → nat_abs X ≤ 240518168576 → SFits w64 X
-small_fits X h = omega (arith, ints)
 
 pub sub_fits : (X Y : ℤ) → nat_abs X ≤ 240518168576 → nat_abs Y ≤ 240518168576 → SFits w64 (to_z w64 (of_z w64 X) -ℤ to_z w64 (of_z w64 Y))
 sub_fits X Y hx hy = omega (arith, ints)
@@ -179,39 +161,25 @@ module _ (g c gain cost : ℤ) (hg : nat_abs g ≤ 1073741824) (hc : nat_abs c �
   pub weight_small : nat_abs (to_z w64 (of_z w64 (to_z w64 (of_z w64 X) -ℤ to_z w64 (of_z w64 Y)))) ≤ 1099511627776
   weight_small = subst (λ u. nat_abs u ≤ 1099511627776) (sym (sub_back X Y x_small y_small)) (sub_small X Y x_small y_small)
 
-pub weight_of_back : (arcs : List Arc) (gain cost : ℤ) (k : ℕ) → nat_abs gain ≤ 34359738368 → nat_abs cost ≤ 34359738368 → weight_of arcs (to_z w64 (of_z w64 gain)) (to_z w64 (of_z w64 cost)) k ≡ weight_of arcs gain cost k
-weight_of_back arcs gain cost k hg hc = ap (λ y. weight_of arcs y (to_z w64 (of_z w64 cost)) k) (back gain hg) ∙ ap (λ y. weight_of arcs gain y k) (back cost hc)
-
-pub take_modest : (m : ℕ) (ws : List ℤ) → m ≤ length ws → WeightsFit ws → WeightsFit (take m ws)
-take_modest m ws le h k = elim (dec_lt k m) [
-  | yes p ↦ subst (λ y. nat_abs y ≤ 1099511627776) (sym (get_or-take m ws k (pos 0) p)) (h k)
-  | no p ↦ let past : length (take m ws) ≤ k = omega (arith, length-take-le m ws le) in omega (arith, ints, get_or_past (take m ws) k (pos 0) past)
-]
-
 from_diff : (X Y : ℤ) → (X -ℤ Y) ≤ℤ pos 0 → X ≤ℤ Y
 from_diff X Y h = omega (arith, ints)
 
 from_diff_lt : (X Y : ℤ) → pos 0 <ℤ (X -ℤ Y) → Y <ℤ X
 from_diff_lt X Y h = omega (arith, ints)
 
-module _ (arcs : List Arc) (gain cost : ℤ) (ws : List ℤ) (e : (k : ℕ) → k < length arcs → at ws k ≡ weight_of arcs gain cost k) where
-  sum_of_weights : (r : List ℕ) → CircuitOf arcs r → sum (at ws) r ≡ (sum (gain_of arcs) r *ℤ cost) -ℤ (sum (cost_of arcs) r *ℤ gain)
-  sum_of_weights r c = sum_same (at ws) (weight_of arcs gain cost) (length arcs) e r (goes_inside arcs c.event c.event r c.circuit.0) ∙ sum_weights (gain_of arcs) (cost_of arcs) gain cost r
+module _ (arcs : List Arc) (gain cost : ℤ) (w : ℕ → ℤ) (e : (k : ℕ) → k < length arcs → w k ≡ weight_of arcs gain cost k) where
+  pub sum_of_weights : (r : List ℕ) → CircuitOf arcs r → sum w r ≡ (sum (gain_of arcs) r *ℤ cost) -ℤ (sum (cost_of arcs) r *ℤ gain)
+  sum_of_weights r c = sum_same w (weight_of arcs gain cost) (length arcs) e r (circuit_known arcs r c) ∙ sum_weights (gain_of arcs) (cost_of arcs) gain cost r
 
-  pub none_better : NoneGains arcs (at ws) → NoneBetter arcs gain cost
+  pub none_better : NoneGains arcs w → NoneBetter arcs gain cost
   none_better h r c = subst (λ y. (sum (gain_of arcs) r *ℤ cost) ≤ℤ y) (*ℤ_comm (sum (cost_of arcs) r) gain) (from_diff _ _ (subst (λ y. y ≤ℤ pos 0) (sum_of_weights r c) (h r c)))
 
-  pub some_better : (r : List ℕ) → GainingCircuit arcs (at ws) r → (sum (cost_of arcs) r *ℤ gain) <ℤ (sum (gain_of arcs) r *ℤ cost)
+  pub some_better : (r : List ℕ) → GainingCircuit arcs w r → (sum (cost_of arcs) r *ℤ gain) <ℤ (sum (gain_of arcs) r *ℤ cost)
   some_better r g = from_diff_lt _ _ (subst (λ y. pos 0 <ℤ y) (sum_of_weights r g.circuit) g.gains)
 
 -- settled values leave no circuit that gains
-pub row_none_gains : (arcs : List Arc) (ws : List ℤ) {row : List ℤ} → SettledRow arcs ws row → NoneGains arcs (at ws)
-row_none_gains arcs ws {row = row} s = none_gains arcs (at ws) (at row) s.holds
-
-pub listed_known : (arcs : List Arc) (xs : List ℕ) (l i : ℕ) → l ≤ length xs → i < l → CircuitOf arcs (take l xs) → nth xs i < length arcs
-listed_known arcs xs l i le lt c =
-    let inside : i < length (take l xs) = omega (arith, length-take-le l xs le) in
-    subst (λ y. y < length arcs) (get_or-take l xs i 0 lt) (All-get_or (λ a. a < length arcs) (take l xs) i 0 inside (goes_inside arcs c.event c.event (take l xs) c.circuit.0))
+pub row_none_gains : (arcs : List Arc) (w : ℕ → ℤ) (row : List ℤ) → SettledRow arcs w row → NoneGains arcs w
+row_none_gains arcs w row s = none_gains arcs w (at row) s.holds
 
 gain_small : (arcs : List Arc) → ArcsFit arcs → (a : ℕ) → a < length arcs → nat_abs (gain_of arcs a) ≤ 1073741824
 gain_small arcs s a h = (All-get_or _ arcs a no_arc h s).0
@@ -219,11 +187,11 @@ gain_small arcs s a h = (All-get_or _ arcs a no_arc h s).0
 cost_small : (arcs : List Arc) → ArcsFit arcs → (a : ℕ) → a < length arcs → nat_abs (cost_of arcs a) ≤ 7
 cost_small arcs s a h = (All-get_or _ arcs a no_arc h s).2
 
-pub own_fair : (arcs : List Arc) (x : WeighedCircuit) → ArcsFit arcs → pos 0 <ℤ x.cost → length x.circuit.arcs ≡ 32 → OwnSums arcs x → RatioFits x.gain x.cost
-own_fair arcs x s some len o =
+pub own_fair : (arcs : List Arc) (x : WeighedCircuit) → ArcsFit arcs → pos 0 <ℤ x.cost → OwnSums arcs x → RatioFits x.gain x.cost
+own_fair arcs x s some o =
     let r : List ℕ = numbers_of x.circuit in
-    let inside : AllByRecursion (λ a. a < length arcs) r = goes_inside arcs o.circuit.event o.circuit.event r o.circuit.circuit.0 in
-    let short : length r ≤ 32 = omega (arith, length-take-le x.circuit.len x.circuit.arcs (omega (arith, o.short)), o.short) in
+    let inside = circuit_known arcs r o.circuit in
+    let short : length r ≤ 32 = o.short in
     let g : nat_abs (sum (gain_of arcs) r) ≤ length r * 1073741824 = sum_small (gain_of arcs) (length arcs) 1073741824 (gain_small arcs s) r inside in
     let c : nat_abs (sum (cost_of arcs) r) ≤ length r * 7 = sum_small (cost_of arcs) (length arcs) 7 (cost_small arcs s) r inside in
     record {
@@ -233,12 +201,11 @@ own_fair arcs x s some len o =
     }
 
 -- sums as the code hands them on
-pub own_sums : (arcs : List Arc) → ArcsFit arcs → (f : Circuit) → length f.arcs ≡ 32 → f.len ≤ 32 → (G C : ℤ) → G ≡ sum (gain_of arcs) (numbers_of f) → C ≡ sum (cost_of arcs) (numbers_of f) → CircuitOf arcs (numbers_of f)
+pub own_sums : (arcs : List Arc) → ArcsFit arcs → (f : Circuit) → length (numbers_of f) ≤ 32 → (G C : ℤ) → G ≡ sum (gain_of arcs) (numbers_of f) → C ≡ sum (cost_of arcs) (numbers_of f) → CircuitOf arcs (numbers_of f)
     → OwnSums arcs (record { gain = to_z w64 (of_z w64 G); cost = to_z w64 (of_z w64 C); circuit = f })
-own_sums arcs s f len short G C eG eC c =
+own_sums arcs s f short G C eG eC c =
     let r : List ℕ = numbers_of f in
-    let inside : AllByRecursion (λ a. a < length arcs) r = goes_inside arcs c.event c.event r c.circuit.0 in
-    let few : length r ≤ 32 = omega (arith, length-take-le f.len f.arcs (omega arith)) in
+    let inside = circuit_known arcs r c in
     let hG : nat_abs (sum (gain_of arcs) r) ≤ length r * 1073741824 = sum_small (gain_of arcs) (length arcs) 1073741824 (gain_small arcs s) r inside in
     let hC : nat_abs (sum (cost_of arcs) r) ≤ length r * 7 = sum_small (cost_of arcs) (length arcs) 7 (cost_small arcs s) r inside in
     record {
@@ -248,14 +215,13 @@ own_sums arcs s f len short G C eG eC c =
       costs = back C (subst (λ y. nat_abs y ≤ 34359738368) (sym eC) (omega arith)) ∙ eC;
     }
 
-pub make_better : (arcs : List Arc) (gain cost : ℤ) (ws : List ℤ) → ((k : ℕ) → k < length arcs → at ws k ≡ weight_of arcs gain cost k) → ArcsFit arcs → (f : Circuit) → length f.arcs ≡ 32 → f.len ≤ 32
-    → (G C : ℤ) → G ≡ sum (gain_of arcs) (numbers_of f) → C ≡ sum (cost_of arcs) (numbers_of f) → GainingCircuit arcs (at ws) (numbers_of f) → BetterCircuit arcs gain cost (record { gain = to_z w64 (of_z w64 G); cost = to_z w64 (of_z w64 C); circuit = f })
-make_better arcs gain cost ws e s f len short G C eG eC g =
-    let own = own_sums arcs s f len short G C eG eC g.circuit in
-    let r : List ℕ = numbers_of f in
+-- a circuit that gains against a ratio is better
+pub make_better : (arcs : List Arc) (gain cost : ℤ) (w : ℕ → ℤ) → ((k : ℕ) → k < length arcs → w k ≡ weight_of arcs gain cost k) → (x : WeighedCircuit) → OwnSums arcs x → GainingCircuit arcs w (numbers_of x.circuit) → BetterCircuit arcs gain cost x
+make_better arcs gain cost w e x own g =
+    let r : List ℕ = numbers_of x.circuit in
     record {
       own = own;
-      above = subst (λ y. (y *ℤ gain) <ℤ (to_z w64 (of_z w64 G) *ℤ cost)) (sym own.costs) (subst (λ y. (sum (cost_of arcs) r *ℤ gain) <ℤ (y *ℤ cost)) (sym own.gains) (some_better arcs gain cost ws e r g));
+      above = subst (λ y. (y *ℤ gain) <ℤ (x.gain *ℤ cost)) (sym own.costs) (subst (λ y. (sum (cost_of arcs) r *ℤ gain) <ℤ (y *ℤ cost)) (sym own.gains) (some_better arcs gain cost w e r g));
     }
 
 cost_low : (arcs : List Arc) → ArcsFit arcs → (a : ℕ) → a < length arcs → pos 0 ≤ℤ cost_of arcs a
@@ -269,19 +235,9 @@ sum_low f m h (a ∷ r) l = omega (arith, ints, h a l.0, sum_low f m h r l.1)
 pub costs_low : (arcs : List Arc) → ArcsFit arcs → (r : List ℕ) → CircuitOf arcs r → pos 0 ≤ℤ sum (cost_of arcs) r
 costs_low arcs s r c = sum_low (cost_of arcs) (length arcs) (cost_low arcs s) r (goes_inside arcs c.event c.event r c.circuit.0)
 
--- a product above 0 with a factor above 0
-factor_above : (g : ℤ) (C : ℕ) → pos 0 <ℤ (g *ℤ pos C) → pos 0 <ℤ g
-factor_above (pos zero) C h = omega (arith, ints)
-factor_above (pos (suc g)) C h = omega (arith, ints)
-factor_above (negsuc g) C h = omega (arith, ints)
-
-gains_above : (g c gain cost : ℤ) → pos 0 <ℤ cost → c ≡ pos 0 → (c *ℤ gain) <ℤ (g *ℤ cost) → pos 0 <ℤ g
-gains_above g c gain (pos C) some nothing above = factor_above g C (let h : (pos 0 *ℤ gain) <ℤ (g *ℤ pos C) = subst (λ y. (y *ℤ gain) <ℤ (g *ℤ pos C)) nothing above in omega (arith, ints))
-gains_above g c gain (negsuc C) some nothing above = absurd (omega (arith, ints))
-
 -- what the loop has so far: nothing, at the ratio of -1 to 0, or a circuit at its own ratio
 abbrev pub BestSoFar : List Arc → Option WeighedCircuit → ℤ → ℤ → Type 0
-BestSoFar arcs best gain cost = MatchOption best ((gain ≡ negsuc 0) × (cost ≡ pos 0)) (λ x. OwnSums arcs x × (length x.circuit.arcs ≡ 32) × (gain ≡ x.gain) × (cost ≡ x.cost) × (pos 0 <ℤ x.cost))
+BestSoFar arcs best gain cost = MatchOption best ((gain ≡ negsuc 0) × (cost ≡ pos 0)) (λ x. OwnSums arcs x × (gain ≡ x.gain) × (cost ≡ x.cost) × (pos 0 <ℤ x.cost))
 
 -- how many improvements are left at most
 abbrev pub left : Option WeighedCircuit → ℕ
@@ -292,29 +248,22 @@ module _ (arcs : List Arc) (s : ArcsFit arcs) where
   pub best_fits : (best : Option WeighedCircuit) (gain cost : ℤ) → BestSoFar arcs best gain cost → (nat_abs gain ≤ 34359738368) × (nat_abs cost ≤ 224)
   best_fits None gain cost k = (omega (arith, ints, k.0), omega (arith, ints, k.1))
   best_fits (Some x) gain cost k =
-      let f = own_fair arcs x s k.4 k.1 k.0 in
-      (subst (λ y. nat_abs y ≤ 34359738368) (sym k.2) f.gain_small, subst (λ y. nat_abs y ≤ 224) (sym k.3) f.cost_small)
+      let f = own_fair arcs x s k.3 k.0 in
+      (subst (λ y. nat_abs y ≤ 34359738368) (sym k.1) f.gain_small, subst (λ y. nat_abs y ≤ 224) (sym k.2) f.cost_small)
 
   pub cost_above : (x : WeighedCircuit) → OwnSums arcs x → (x.cost ≡ pos 0 → ⊥) → pos 0 <ℤ x.cost
   cost_above x o ne = let low : pos 0 ≤ℤ x.cost = subst (λ y. pos 0 ≤ℤ y) (sym o.costs) (costs_low arcs s (numbers_of x.circuit) o.circuit) in omega (arith, ints, ne)
 
-  pub best_falls : (best : Option WeighedCircuit) (gain cost : ℤ) (y : WeighedCircuit) → length y.circuit.arcs ≡ 32 → pos 0 <ℤ y.cost → BestSoFar arcs best gain cost → BetterCircuit arcs gain cost y → left (Some y) < left best
-  best_falls None gain cost y len some k b = omega arith
-  best_falls (Some x) gain cost y len some k b =
-      let fx = own_fair arcs x s k.4 k.1 k.0 in
-      let fy = own_fair arcs y s some len b.own in
-      let above : (y.cost *ℤ x.gain) <ℤ (y.gain *ℤ x.cost) = subst (λ u. (y.cost *ℤ u) <ℤ (y.gain *ℤ x.cost)) k.2 (subst (λ u. (y.cost *ℤ gain) <ℤ (y.gain *ℤ u)) k.3 b.above) in
+  pub best_falls : (best : Option WeighedCircuit) (gain cost : ℤ) (y : WeighedCircuit) → pos 0 <ℤ y.cost → BestSoFar arcs best gain cost → BetterCircuit arcs gain cost y → left (Some y) < left best
+  best_falls None gain cost y some k b = omega arith
+  best_falls (Some x) gain cost y some k b =
+      let fx = own_fair arcs x s k.3 k.0 in
+      let fy = own_fair arcs y s some b.own in
+      let above : (y.cost *ℤ x.gain) <ℤ (y.gain *ℤ x.cost) = subst (λ u. (y.cost *ℤ u) <ℤ (y.gain *ℤ x.cost)) k.1 (subst (λ u. (y.cost *ℤ gain) <ℤ (y.gain *ℤ u)) k.2 b.above) in
       omega (arith, rank_rises x.gain x.cost y.gain y.cost fx fy above, rank_small y.gain y.cost fy)
 
   pub best_last : (best : Option WeighedCircuit) (gain cost : ℤ) → BestSoFar arcs best gain cost → NoneBetter arcs gain cost → Improved arcs (Ok best)
   best_last None gain cost k h = λ r c.
       let none : (sum (gain_of arcs) r *ℤ pos 0) ≤ℤ (negsuc 0 *ℤ sum (cost_of arcs) r) = subst (λ y. (sum (gain_of arcs) r *ℤ pos 0) ≤ℤ (y *ℤ sum (cost_of arcs) r)) k.0 (subst (λ y. (sum (gain_of arcs) r *ℤ y) ≤ℤ (gain *ℤ sum (cost_of arcs) r)) k.1 (h r c)) in
       omega (arith, ints, costs_low arcs s r c)
-  best_last (Some x) gain cost k h = record { own = k.0; costs_some = k.4; largest = subst (λ y. NoneBetter arcs y x.cost) k.2 (subst (NoneBetter arcs gain) k.3 h) }
-
-  -- a better circuit that costs nothing gains something
-  pub for_nothing : (best : Option WeighedCircuit) (gain cost : ℤ) (y : WeighedCircuit) → y.cost ≡ pos 0 → BestSoFar arcs best gain cost → BetterCircuit arcs gain cost y → Improved arcs (Err y)
-  for_nothing None gain cost y nothing k b =
-      let above : (y.cost *ℤ negsuc 0) <ℤ (y.gain *ℤ pos 0) = subst (λ u. (y.cost *ℤ u) <ℤ (y.gain *ℤ pos 0)) k.0 (subst (λ u. (y.cost *ℤ gain) <ℤ (y.gain *ℤ u)) k.1 b.above) in
-      absurd (omega (arith, ints))
-  for_nothing (Some x) gain cost y nothing k b = record { own = b.own; nothing = nothing; gains_some = gains_above y.gain y.cost gain x.cost k.4 nothing (subst (λ u. (y.cost *ℤ gain) <ℤ (y.gain *ℤ u)) k.3 b.above) }
+  best_last (Some x) gain cost k h = record { own = k.0; costs_some = k.3; largest = subst (λ y. NoneBetter arcs y x.cost) k.1 (subst (NoneBetter arcs gain) k.2 h) }

@@ -1,7 +1,7 @@
 -- What a round does to the values, and what the values are.
-use Rattle.std.proofs.Common.{◌≡◌, ℕ, zero, suc, ◌+◌, ◌*◌, ◌<◌, ◌≤◌, Bool, true, false, cond, eqb, ◌⊎◌, List, [], ◌∷◌, length, set, ℤ, pos, ◌+ℤ◌, nat_abs, ◌≤ℤ◌, ◌<ℤ◌, sym, refl, ap, ◌∙◌, subst, inl, inr, add-one, arith, eq-eqb, ne_eqb}
+use Rattle.std.proofs.Common.{◌≡◌, ℕ, zero, suc, ◌+◌, ◌*◌, ◌<◌, ◌≤◌, Bool, true, false, cond, eqb, ◌⊎◌, List, [], ◌∷◌, length, set, ℤ, pos, ◌+ℤ◌, nat_abs, ◌≤ℤ◌, ◌<ℤ◌, sym, refl, ap, ◌∙◌, subst, inl, inr, add-one, arith, eq-eqb, ne_eqb, eqb-true}
 use native.Mathlib.Decide.{ℕ_discrete, dec_lt}
-use lib.Signed.{lt_z}
+use lib.Signed.{le_z}
 use Rattle.std.specs.Int.{int_max}
 use Rattle.std.proofs.ByRecursion.{All-get_or, All-weaker}
 use Rattle.std.proofs.lemmas.Int.{ints, clamps}
@@ -10,8 +10,8 @@ use Rattle.circuits.specs.declared.Arc.{Arc}
 use Rattle.runs.specs.Nets.{In, IsRun}
 use Rattle.runs.proofs.Members.{in_counting, counting_in}
 use Rattle.circuits.specs.Arcs.{no_arc, start_of, end_of, arcs_net, CircuitOf, sum, ArcsBelow}
-use Rattle.circuits.specs.Rounds.{rise, value, at, HoldsRound, WeightsFit, ValuesFit}
-use Rattle.circuits.specs.Walks.{Raises, IsRaised}
+use Rattle.circuits.specs.Rounds.{rise, value, at, HoldsRound, HoldsRise, WeightsFit, ValuesFit}
+use Rattle.circuits.specs.Walks.{IsRaised}
 
 cond_over : (b : Bool) (x y u : ℤ) → u ≤ℤ y → u ≤ℤ cond b (int_max x y) y
 cond_over true x y u h = omega (arith, ints, clamps)
@@ -23,12 +23,6 @@ cond_under false x y u h k = k
 
 max_first : (x y : ℤ) → x ≤ℤ int_max x y
 max_first x y = omega (arith, ints, clamps)
-
-pub from_ltZ : (a b : ℤ) → lt_z a b ≡ true → a <ℤ b
-from_ltZ a b h = grind (arith, ints)
-
-pub from_not_ltZ : (a b : ℤ) → lt_z a b ≡ false → b ≤ℤ a
-from_not_ltZ a b h = grind (arith, ints)
 
 -- the numbers of the arcs are the places in their list
 pub arc_inside : (arcs : List Arc) (a : ℕ) → In a (arcs_net arcs).links → a < length arcs
@@ -116,53 +110,49 @@ module _ (arcs : List Arc) (w : ℕ → ℤ) where
   none_gains v h r c = let t : (v c.event +ℤ sum w r) ≤ℤ v c.event = settled v h c.event c.event r c.circuit.0 in omega (arith, ints)
 
   -- one more arc of a round
-  pub raised_more : (v : ℕ → ℤ) (new : List ℤ) (k : ℕ) (x : ℤ) → length new ≡ 32 → end_of arcs k < 32 → x ≡ int_max (v (start_of arcs k) +ℤ w k) (at new (end_of arcs k)) → ((j : ℕ) → j < 32 → at new j ≡ rise arcs w v j k)
-      → (j : ℕ) → j < 32 → at (set new (end_of arcs k) x) j ≡ rise arcs w v j (k + 1)
-  raised_more v new k x len inside e inv j hj = go (ℕ_discrete (end_of arcs k) j)
+  pub raised_more : (v : ℕ → ℤ) (new : List ℤ) (k p : ℕ) (x : ℤ) → length new ≡ 32 → p ≡ end_of arcs k → p < 32 → x ≡ int_max (v (start_of arcs k) +ℤ w k) (at new p) → ((j : ℕ) → j < 32 → at new j ≡ rise arcs w v j k)
+      → (j : ℕ) → j < 32 → at (set new p x) j ≡ rise arcs w v j (k + 1)
+  raised_more v new k p x len ends inside e inv j hj = go (ℕ_discrete p j)
     where
-      go : Dec (end_of arcs k ≡ j) → at (set new (end_of arcs k) x) j ≡ rise arcs w v j (k + 1)
+      go : Dec (p ≡ j) → at (set new p x) j ≡ rise arcs w v j (k + 1)
       go (yes same) =
-          let lt : end_of arcs k < length new = omega arith in
-          subst (λ y. at (set new (end_of arcs k) x) y ≡ x) same (get_or-set_same new (end_of arcs k) x (pos 0) lt)
+          let lt : p < length new = omega arith in
+          subst (λ y. at (set new p x) y ≡ x) same (get_or-set_same new p x (pos 0) lt)
           ∙ e ∙ ap (int_max (v (start_of arcs k) +ℤ w k)) (ap (at new) same ∙ inv j hj)
-          ∙ sym (rise_on v j k same)
-      go (no ne) = get_or-set_other new (end_of arcs k) j x (pos 0) (λ z. ne (sym z)) ∙ inv j hj ∙ sym (rise_by v j k ne)
+          ∙ sym (rise_on v j k (sym ends ∙ same))
+      go (no ne) = get_or-set_other new p j x (pos 0) (λ z. ne (sym z)) ∙ inv j hj ∙ sym (rise_by v j k (λ z. ne (ends ∙ z)))
 
-  -- the best so far at e, and which arc gave it
-  abbrev pub RaisedSoFar : (ℕ → ℤ) → ℕ → ℕ → ℤ → ℕ → Type 0
-  RaisedSoFar v e k best by = (best ≡ rise arcs w v e k) × ((best ≡ v e) ⊎ ((by < k) × (end_of arcs by ≡ e) × (best ≡ v (start_of arcs by) +ℤ w by)))
+max_either : (x y : ℤ) → (int_max x y ≡ x) ⊎ (int_max x y ≡ y)
+max_either x y = go (le_z x y) refl
+  where
+    go : (t : Bool) → le_z x y ≡ t → (int_max x y ≡ x) ⊎ (int_max x y ≡ y)
+    go true e = inr (grind (arith, ints, clamps))
+    go false e = inl (grind (arith, ints, clamps))
 
-  held_wider : (v : ℕ → ℤ) (e k : ℕ) (best : ℤ) (by : ℕ) → (best ≡ v e) ⊎ ((by < k) × (end_of arcs by ≡ e) × (best ≡ v (start_of arcs by) +ℤ w by)) → (best ≡ v e) ⊎ ((by < k + 1) × (end_of arcs by ≡ e) × (best ≡ v (start_of arcs by) +ℤ w by))
-  held_wider v e k best by (inl h) = inl h
-  held_wider v e k best by (inr h) = inr (omega (arith, h.0), h.1, h.2)
+-- the value at j after a round is what it was, or what an arc to j brings
+abbrev pub Brought : List Arc → (ℕ → ℤ) → (ℕ → ℤ) → ℕ → ℕ → Type 0
+Brought arcs w v j k = (rise arcs w v j k ≡ v j) ⊎ ((a : ℕ) × (a < k) × (end_of arcs a ≡ j) × (rise arcs w v j k ≡ v (start_of arcs a) +ℤ w a))
 
-  pub held_none : (v : ℕ → ℤ) (e : ℕ) (best : ℤ) (by : ℕ) → best ≡ v e → RaisedSoFar v e 0 best by
-  held_none v e best by h = (h ∙ sym (rise_none v e), inl h)
-
-  pub held_up : (v : ℕ → ℤ) (e k : ℕ) (best : ℤ) (by : ℕ) (new : ℤ) → end_of arcs k ≡ e → RaisedSoFar v e k best by → new ≡ v (start_of arcs k) +ℤ w k → best <ℤ new → RaisedSoFar v e (k + 1) new k
-  held_up v e k best by new ends h en lt = (
-    (let m : int_max (v (start_of arcs k) +ℤ w k) (rise arcs w v e k) ≡ new = omega (arith, ints, clamps, h.0) in sym m ∙ sym (rise_on v e k ends)),
-    inr (omega arith, ends, en),
-  )
-
-  pub held_stay : (v : ℕ → ℤ) (e k : ℕ) (best : ℤ) (by : ℕ) (new : ℤ) → end_of arcs k ≡ e → RaisedSoFar v e k best by → new ≡ v (start_of arcs k) +ℤ w k → new ≤ℤ best → RaisedSoFar v e (k + 1) best by
-  held_stay v e k best by new ends h en le = (
-    (let m : int_max (v (start_of arcs k) +ℤ w k) (rise arcs w v e k) ≡ best = omega (arith, ints, clamps, h.0) in sym m ∙ sym (rise_on v e k ends)),
-    held_wider v e k best by h.1,
-  )
-
-  pub held_by : (v : ℕ → ℤ) (e k : ℕ) (best : ℤ) (by : ℕ) → (end_of arcs k ≡ e → ⊥) → RaisedSoFar v e k best by → RaisedSoFar v e (k + 1) best by
-  held_by v e k best by ne h = (h.0 ∙ sym (rise_by v e k ne), held_wider v e k best by h.1)
-
-  pub held_raiser : (v : ℕ → ℤ) (e k : ℕ) (best : ℤ) (by : ℕ) → k ≡ length arcs → v e <ℤ rise arcs w v e (length arcs) → RaisedSoFar v e k best by → Raises arcs w v e by
-  held_raiser v e k best by all up h = go h.1
+module _ (arcs : List Arc) (w : ℕ → ℤ) where
+  pub brought : (v : ℕ → ℤ) (j k : ℕ) → Brought arcs w v j k
+  unfolding rise
+  brought v j zero = inl refl
+  brought v j (suc k) = go (eqb (end_of arcs k) j) refl (brought v j k)
     where
-      same : best ≡ rise arcs w v e (length arcs)
-      same = h.0 ∙ ap (rise arcs w v e) all
+      x : ℤ
+      x = v (start_of arcs k) +ℤ w k
 
-      go : (best ≡ v e) ⊎ ((by < k) × (end_of arcs by ≡ e) × (best ≡ v (start_of arcs by) +ℤ w by)) → Raises arcs w v e by
-      go (inl e') = absurd (omega (arith, ints, same))
-      go (inr t) = record { inside = omega (arith, t.0, all); ends = t.1; adds = sym same ∙ t.2 }
+      wider : (y : ℤ) → y ≡ rise arcs w v j k → Brought arcs w v j k → (y ≡ v j) ⊎ ((a : ℕ) × (a < suc k) × (end_of arcs a ≡ j) × (y ≡ v (start_of arcs a) +ℤ w a))
+      wider y e (inl h) = inl (e ∙ h)
+      wider y e (inr t) = inr (t.0, omega (arith, t.1), t.2, e ∙ t.3)
+
+      by_max : end_of arcs k ≡ j → (int_max x (rise arcs w v j k) ≡ x) ⊎ (int_max x (rise arcs w v j k) ≡ rise arcs w v j k) → Brought arcs w v j k → (int_max x (rise arcs w v j k) ≡ v j) ⊎ ((a : ℕ) × (a < suc k) × (end_of arcs a ≡ j) × (int_max x (rise arcs w v j k) ≡ v (start_of arcs a) +ℤ w a))
+      by_max e (inl m) b = inr (k, omega arith, e, m)
+      by_max e (inr m) b = wider (int_max x (rise arcs w v j k)) m b
+
+      go : (t : Bool) → eqb (end_of arcs k) j ≡ t → Brought arcs w v j k → (cond t (int_max x (rise arcs w v j k)) (rise arcs w v j k) ≡ v j) ⊎ ((a : ℕ) × (a < suc k) × (end_of arcs a ≡ j) × (cond t (int_max x (rise arcs w v j k)) (rise arcs w v j k) ≡ v (start_of arcs a) +ℤ w a))
+      go true e b = by_max (eqb-true (end_of arcs k) j e) (max_either x (rise arcs w v j k)) b
+      go false e b = wider (rise arcs w v j k) refl b
 
 -- only the values at events count
 pub rise_same : (arcs : List Arc) (w v u : ℕ → ℤ) → ArcsBelow 32 arcs → ((j : ℕ) → j < 32 → v j ≡ u j) → (j : ℕ) → j < 32 → (k : ℕ) → k ≤ length arcs → rise arcs w v j k ≡ rise arcs w u j k
@@ -174,20 +164,20 @@ rise_same arcs w v u below e j hj (suc k) l =
     ∙ ap (λ y. cond (eqb (end_of arcs k) j) (int_max (u (start_of arcs k) +ℤ w k) y) y) (rise_same arcs w v u below e j hj k (omega arith))
 
 -- a row's numbers stay small
-pub row_roomy : (arcs : List Arc) (ws : List ℤ) (k : ℕ) (row : List ℤ) → k ≤ 32 → length row ≡ 32 → WeightsFit ws → HoldsRound arcs ws k row → ValuesFit row
-row_roomy arcs ws k row hk len modest h j = elim (dec_lt j 32) [
-  | yes p ↦ omega (arith, ints, h j p, value_low arcs (at ws) k j, value_high arcs (at ws) modest k j)
+pub row_roomy : (arcs : List Arc) (w : ℕ → ℤ) (k : ℕ) (row : List ℤ) → k ≤ 32 → length row ≡ 32 → WeightsFit w → HoldsRound arcs w k row → ValuesFit row
+row_roomy arcs w k row hk len modest h j = elim (dec_lt j 32) [
+  | yes p ↦ omega (arith, ints, h j p, value_low arcs w k j, value_high arcs w modest k j)
   | no p ↦ let past : length row ≤ j = omega arith in omega (arith, ints, get_or_past row j (pos 0) past)
 ]
 
-pub row_more : (arcs : List Arc) (ws : List ℤ) (k : ℕ) (row new : List ℤ) → ArcsBelow 32 arcs → length row ≡ 32 → HoldsRound arcs ws k row → ((j : ℕ) → j < 32 → at new j ≡ rise arcs (at ws) (at row) j (length arcs)) → HoldsRound arcs ws (k + 1) new
-row_more arcs ws k row new below len h e j hj = e j hj ∙ rise_same arcs (at ws) (at row) (value arcs (at ws) k) below h j hj (length arcs) (omega arith) ∙ sym (value_more arcs (at ws) k j)
+pub row_more : (arcs : List Arc) (w : ℕ → ℤ) (k : ℕ) (row new : List ℤ) → ArcsBelow 32 arcs → HoldsRound arcs w k row → HoldsRise arcs w row new → HoldsRound arcs w (k + 1) new
+row_more arcs w k row new below h e j hj = e j hj ∙ rise_same arcs w (at row) (value arcs w k) below h j hj (length arcs) (omega arith) ∙ sym (value_more arcs w k j)
 
 pub below_wider : (n : ℕ) (arcs : List Arc) → n ≤ 32 → ArcsBelow n arcs → ArcsBelow 32 arcs
 below_wider n arcs h b = All-weaker _ _ (λ a t. (omega (arith, t.0), omega (arith, t.1))) arcs b
 
 -- a round that raises nothing leaves values that no arc would raise
-pub settled_holds : (arcs : List Arc) (w : ℕ → ℤ) (row new : List ℤ) → ArcsBelow 32 arcs → ((j : ℕ) → j < 32 → at new j ≡ rise arcs w (at row) j (length arcs)) → ((j : ℕ) → j < 32 → at new j ≤ℤ at row j) → (a : ℕ) → a < length arcs → (at row (start_of arcs a) +ℤ w a) ≤ℤ at row (end_of arcs a)
+pub settled_holds : (arcs : List Arc) (w : ℕ → ℤ) (row new : List ℤ) → ArcsBelow 32 arcs → HoldsRise arcs w row new → ((j : ℕ) → j < 32 → at new j ≤ℤ at row j) → (a : ℕ) → a < length arcs → (at row (start_of arcs a) +ℤ w a) ≤ℤ at row (end_of arcs a)
 settled_holds arcs w row new below e le a h =
     let he : end_of arcs a < 32 = (All-get_or _ arcs a no_arc h below).1 in
     let one = rise_arc arcs w (at row) (end_of arcs a) (length arcs) a h refl in
@@ -195,9 +185,17 @@ settled_holds arcs w row new below e le a h =
     let three = le (end_of arcs a) he in
     omega (arith, ints)
 
-pub raised_more_event : (arcs : List Arc) (ws : List ℤ) (k e : ℕ) (row new : List ℤ) → e < 32 → HoldsRound arcs ws k row → HoldsRound arcs ws (k + 1) new → at row e <ℤ at new e → IsRaised arcs (at ws) (k + 1) e
-raised_more_event arcs ws k e row new he h h' lt q eq =
+pub raised_more_event : (arcs : List Arc) (w : ℕ → ℤ) (k e : ℕ) (row new : List ℤ) → e < 32 → HoldsRound arcs w k row → HoldsRound arcs w (k + 1) new → at row e <ℤ at new e → IsRaised arcs w (k + 1) e
+raised_more_event arcs w k e row new he h h' lt q eq =
     let same : k ≡ q = omega arith in
     let old = h e he in
     let now' = h' e he in
-    subst (λ y. value arcs (at ws) y e <ℤ value arcs (at ws) (y + 1) e) same (omega (arith, ints))
+    subst (λ y. value arcs w y e <ℤ value arcs w (y + 1) e) same (omega (arith, ints))
+
+-- an event that a round raises has an arc that brings it what it is raised to
+pub some_raiser : (arcs : List Arc) (w v : ℕ → ℤ) (e : ℕ) → v e <ℤ rise arcs w v e (length arcs) → ((a : ℕ) → a < length arcs → end_of arcs a ≡ e → rise arcs w v e (length arcs) ≡ v (start_of arcs a) +ℤ w a → ⊥) → ⊥
+some_raiser arcs w v e up none = go (brought arcs w v e (length arcs))
+  where
+    go : Brought arcs w v e (length arcs) → ⊥
+    go (inl same) = omega (arith, ints, same)
+    go (inr t) = none t.0 t.1 t.2 t.3

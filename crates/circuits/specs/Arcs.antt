@@ -1,5 +1,5 @@
 -- Arcs with a gain and a cost each, the net that they form, and what the numbers along a run add up to.
-use Rattle.std.specs.Prelude.{ℕ, ◌<◌, ◌≤◌, Bool, ◌&&◌, List, [], ◌∷◌, length, take, ℤ, pos, negsuc, ◌+ℤ◌, ◌≤ℤ◌, int_le, nat_lt, slice_index_or, unsigned_abs}
+use Rattle.std.specs.Prelude.{ℕ, ◌<◌, ◌≤◌, Bool, ◌&&◌, List, [], ◌∷◌, length, ℤ, pos, negsuc, ◌+ℤ◌, ◌≤ℤ◌, int_le, nat_lt, slice_index_or, unsigned_abs}
 use Rattle.std.specs.List.{range_with_len, AllByRecursion}
 use Rattle.runs.specs.Nets.{Net, IsCircuit}
 use Rattle.circuits.specs.declared.Arc.{Arc}
@@ -41,9 +41,9 @@ abbrev pub BeginsLowest : List ℕ → Type 0
 BeginsLowest [] = Unit {0}
 BeginsLowest (a ∷ run) = AllByRecursion (λ b. a ≤ b) run
 
--- the arcs of a circuit that is held as an array
+-- the arcs of a circuit, by their numbers
 abbrev pub numbers_of : Circuit → List ℕ
-numbers_of c = take c.len c.arcs
+numbers_of c = c.arcs.items
 
 -- an arc between events below n, with a gain of at most 1,073,741,824 either way and a cost of 0 to 7
 abbrev pub arc_in_range : ℕ → Arc → Bool
@@ -53,6 +53,10 @@ arc_in_range n a = (nat_lt a.from n && nat_lt a.to n) && ((int_le (negsuc 107374
 abbrev pub ArcsBelow : ℕ → List Arc → Type 0
 ArcsBelow n arcs = AllByRecursion (λ a. (a.from < n) × (a.to < n)) arcs
 
--- every arc's numbers are small enough
+-- an arc's numbers are small enough
+abbrev pub ArcFits : Arc → Type 0
+ArcFits a = (unsigned_abs a.gain ≤ 1073741824) × (pos 0 ≤ℤ a.cost) × (unsigned_abs a.cost ≤ 7)
+
+-- every arc's numbers are
 abbrev pub ArcsFit : List Arc → Type 0
-ArcsFit arcs = AllByRecursion (λ a. (unsigned_abs a.gain ≤ 1073741824) × (pos 0 ≤ℤ a.cost) × (unsigned_abs a.cost ≤ 7)) arcs
+ArcsFit arcs = AllByRecursion ArcFits arcs

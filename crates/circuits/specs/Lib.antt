@@ -1,8 +1,9 @@
 pub mod Arcs
+pub mod Ratios
+pub mod Weighed
 pub mod Rounds
 pub mod Walks
 pub mod Searches
 pub mod Turns
-pub mod Ratios
 pub mod Potentials
 pub mod Holding

@@ -1,5 +1,5 @@
 -- The ratio of a circuit's gain to its cost, and the circuit whose ratio is largest.
-use Rattle.std.specs.Prelude.{◌≡◌, ℕ, ◌≤◌, List, ℤ, pos, ◌-ℤ◌, ◌*ℤ◌, ◌≤ℤ◌, ◌<ℤ◌, Some, None, Ok, Err, Option, Result}
+use Rattle.std.specs.Prelude.{◌≡◌, ℕ, ◌≤◌, List, length, ℤ, pos, ◌-ℤ◌, ◌*ℤ◌, ◌≤ℤ◌, ◌<ℤ◌, Some, None, Ok, Err, Option, Result}
 use Rattle.circuits.specs.declared.Arc.{Arc}
 use Rattle.circuits.specs.declared.WeighedCircuit.{WeighedCircuit}
 use Rattle.circuits.specs.Arcs.{gain_of, cost_of, CircuitOf, sum, numbers_of, BeginsLowest}
@@ -11,7 +11,7 @@ weight_of arcs gain cost a = (gain_of arcs a *ℤ cost) -ℤ (cost_of arcs a *�
 -- a circuit of the arcs, with its own sums of gains and costs
 pub record OwnSums (arcs : List Arc) (x : WeighedCircuit) : Type 0 where
   pub circuit : CircuitOf arcs (numbers_of x.circuit)
-  pub short : x.circuit.len ≤ 32
+  pub short : length (numbers_of x.circuit) ≤ 32
   pub gains : x.gain ≡ sum (gain_of arcs) (numbers_of x.circuit)
   pub costs : x.cost ≡ sum (cost_of arcs) (numbers_of x.circuit)
 

@@ -19,12 +19,16 @@ abbrev pub at : List ℤ → ℕ → ℤ
 at xs k = slice_index_or xs k (pos 0)
 
 -- a row holds the values after k rounds
-abbrev pub HoldsRound : List Arc → List ℤ → ℕ → List ℤ → Type 0
-HoldsRound arcs ws k row = (j : ℕ) → j < 32 → at row j ≡ value arcs (at ws) k j
+abbrev pub HoldsRound : List Arc → (ℕ → ℤ) → ℕ → List ℤ → Type 0
+HoldsRound arcs w k row = (j : ℕ) → j < 32 → at row j ≡ value arcs w k j
+
+-- a row holds what one round makes of another
+abbrev pub HoldsRise : List Arc → (ℕ → ℤ) → List ℤ → List ℤ → Type 0
+HoldsRise arcs w old new = (j : ℕ) → j < 32 → at new j ≡ rise arcs w (at old) j (length arcs)
 
 -- a weight is at most 2 ^ 40 either way
-abbrev pub WeightsFit : List ℤ → Type 0
-WeightsFit ws = (k : ℕ) → unsigned_abs (at ws k) ≤ 1099511627776
+abbrev pub WeightsFit : (ℕ → ℤ) → Type 0
+WeightsFit w = (k : ℕ) → unsigned_abs (w k) ≤ 1099511627776
 
 -- a value is at most 2 ^ 45 either way
 abbrev pub ValuesFit : List ℤ → Type 0

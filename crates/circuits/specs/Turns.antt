@@ -8,7 +8,6 @@ use Rattle.circuits.specs.Arcs.{numbers_of, BeginsLowest}
 pub record TurnsToLowest (before after : Circuit) : Type 0 where
   pub place : ℕ
   pub numbers : numbers_of after ≡ drop place (numbers_of before) ++ take place (numbers_of before)
-  pub len : after.len ≡ before.len
   pub lowest : BeginsLowest (numbers_of after)
 
 -- the same with the same sums

@@ -1,14 +1,13 @@
 -- The walk back through the rounds, and what is cut out of it: for the private functions.
-use Rattle.std.specs.Prelude.{◌≡◌, ℕ, ◌+◌, ◌<◌, ◌≤◌, List, length, ℤ, pos, ◌+ℤ◌, ◌≤ℤ◌, ◌<ℤ◌, ◌≢◌, slice_index}
+use Rattle.std.specs.Prelude.{◌≡◌, ℕ, ◌+◌, ◌-◌, ◌<◌, ◌≤◌, List, length, take, drop, ℤ, pos, ◌+ℤ◌, ◌≤ℤ◌, ◌<ℤ◌, ◌≢◌, slice_index, slice_index_or, Option, None, IfSome}
 use Rattle.circuits.specs.declared.Arc.{Arc}
 use Rattle.circuits.specs.Arcs.{start_of, end_of, CircuitOf, sum}
-use Rattle.circuits.specs.Rounds.{rise, value}
+use Rattle.circuits.specs.declared.weighed.WeighedArc.{WeighedArc}
+use Rattle.circuits.specs.Rounds.{at, value}
 
--- the arc a raises the event e from the values v
-pub record Raises (arcs : List Arc) (w v : ℕ → ℤ) (e a : ℕ) : Type 0 where
-  pub inside : a < length arcs
-  pub ends : end_of arcs a ≡ e
-  pub adds : rise arcs w v e (length arcs) ≡ v (start_of arcs a) +ℤ w a
+-- the weighed arc gave the event e the value that a round raised it to
+abbrev pub RaisesTo : List ℤ → List ℤ → ℕ → WeighedArc → Type 0
+RaisesTo old new e x = (x.arc.to ≡ e) × (at old x.arc.to <ℤ at new x.arc.to) × (at old x.arc.from +ℤ x.weight ≡ at new x.arc.to)
 
 -- the arc a raises its end in round t + 1
 pub record RaisesIn (arcs : List Arc) (w : ℕ → ℤ) (t a : ℕ) : Type 0 where
@@ -20,19 +19,19 @@ pub record RaisesIn (arcs : List Arc) (w : ℕ → ℤ) (t a : ℕ) : Type 0 whe
 abbrev pub nth : List ℕ → ℕ → ℕ
 nth xs t = slice_index xs t
 
--- from round k on, each arc of the path raised its end, and begins where the one before ended
-pub record WalksBack (arcs : List Arc) (w : ℕ → ℤ) (n k : ℕ) (path : List ℕ) : Type 0 where
-  pub steps : (t : ℕ) → k ≤ t → t < n → RaisesIn arcs w t (nth path t)
-  pub linked : (t : ℕ) → k ≤ t → t + 1 < n → end_of arcs (nth path t) ≡ start_of arcs (nth path (t + 1))
+-- the first arc of the path raised its end in round k + 1, the next in round k + 2 and so on, and each begins where the one before ended
+pub record WalksBack (arcs : List Arc) (w : ℕ → ℤ) (k : ℕ) (path : List ℕ) : Type 0 where
+  pub steps : (t : ℕ) → t < length path → RaisesIn arcs w (k + t) (nth path t)
+  pub linked : (t : ℕ) → t + 1 < length path → end_of arcs (nth path t) ≡ start_of arcs (nth path (t + 1))
 
--- from its arc at k on, each arc of the path begins where the one before ended
-pub record IsChain (arcs : List Arc) (n k : ℕ) (path : List ℕ) : Type 0 where
-  pub inside : (t : ℕ) → k ≤ t → t < n → nth path t < length arcs
-  pub linked : (t : ℕ) → k ≤ t → t + 1 < n → end_of arcs (nth path t) ≡ start_of arcs (nth path (t + 1))
+-- each arc of the path begins where the one before ended
+pub record IsChain (arcs : List Arc) (path : List ℕ) : Type 0 where
+  pub inside : (t : ℕ) → t < length path → nth path t < length arcs
+  pub linked : (t : ℕ) → t + 1 < length path → end_of arcs (nth path t) ≡ start_of arcs (nth path (t + 1))
 
 -- for each event an arc that ends there, or none
-abbrev pub ArePredecessors : List Arc → List ℕ → Type 0
-ArePredecessors arcs latest = (j : ℕ) → j < 32 → nth latest j < length arcs → end_of arcs (nth latest j) ≡ j
+abbrev pub ArePredecessors : List Arc → List (Option ℕ) → Type 0
+ArePredecessors arcs latest = (j : ℕ) → j < 32 → IfSome (slice_index_or latest j None) (λ a. (a < length arcs) × (end_of arcs a ≡ j))
 
 -- e was raised in round k, if that is not the start
 abbrev pub IsRaised : List Arc → (ℕ → ℤ) → ℕ → ℕ → Type 0
@@ -43,11 +42,18 @@ abbrev pub OpenUpTo : List Arc → List ℕ → ℕ → Type 0
 OpenUpTo arcs path t = (i s : ℕ) → i < t → s ≤ i → start_of arcs (nth path s) ≢ end_of arcs (nth path i)
 
 -- the first part of the path that closes: from its arc at s to that at t
-pub record ClosedPart (arcs : List Arc) (path : List ℕ) (n s t : ℕ) : Type 0 where
+pub record ClosedPart (arcs : List Arc) (path : List ℕ) (s t : ℕ) : Type 0 where
   pub ordered : s ≤ t
-  pub inside : t < n
+  pub inside : t < length path
   pub closes : start_of arcs (nth path s) ≡ end_of arcs (nth path t)
   pub before : OpenUpTo arcs path t
+
+-- a run is the first part of the path that closes
+pub record FirstCircuit (arcs : List Arc) (path run : List ℕ) : Type 0 where
+  pub first : ℕ
+  pub last : ℕ
+  pub closed : ClosedPart arcs path first last
+  pub cut : run ≡ take (last + 1 - first) (drop first path)
 
 -- a circuit whose weights add up to more than 0
 pub record GainingCircuit (arcs : List Arc) (w : ℕ → ℤ) (run : List ℕ) : Type 0 where

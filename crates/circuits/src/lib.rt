@@ -1,9 +1,11 @@
 // Gaining circuits, potentials, and the circuit of the extreme ratio, of a small net of arcs with a gain and a cost each.
 #![tactic(auto)]
 
-ghost use Rattle.std.specs.Prelude.{◌≡◌, ◌≤◌, true, take};
+ghost use Rattle.std.specs.Prelude.{◌≡◌, true};
 ghost use Rattle.runs.specs.Tables.{in_range, every};
 ghost use Rattle.circuits.specs.Arcs.{arc_in_range};
+
+use arrayvec::ArrayVec;
 
 mod net;
 mod predecessors;
@@ -11,10 +13,12 @@ mod ratio;
 mod rotation;
 mod rounds;
 mod search;
+mod sums;
 mod walk;
+mod weighed;
 
 // An arc between two events, with what it gains and what it costs.
-#[derive(Clone, Copy)]
+#[derive(Clone, Copy, Default)]
 pub struct Arc {
     pub from: u8,
     pub to: u8,
@@ -22,26 +26,18 @@ pub struct Arc {
     pub cost: i64,
 }
 
-// Arcs by their numbers, of which the first `len` count.
-#[derive(Clone, Copy)]
+// A circuit of at most 32 arcs, by their numbers.
+#[derive(Clone, Drop)]
 pub struct Circuit {
-    pub arcs: [u8; 32],
-    pub len: usize,
+    pub arcs: ArrayVec<u8, 32>,
 }
 
 // A circuit with what its gains and its costs add up to.
-#[derive(Clone, Copy)]
+#[derive(Clone, Drop)]
 pub struct WeighedCircuit {
     pub gain: i64,
     pub cost: i64,
     pub circuit: Circuit,
-}
-
-// What a search finds: the potential of each event, or a circuit that gains.
-#[derive(Clone, Copy)]
-pub enum Settled {
-    Potentials([i64; 32]),
-    Gaining(WeighedCircuit),
 }
 
 // A net of 1 to 32 events and at most 128 arcs. It allocates nothing. An arc goes by its number, the count of arcs accepted before it;
@@ -49,9 +45,7 @@ pub enum Settled {
 #[derive(Drop)]
 pub struct ArcNet {
     events: u8,
-    count: usize,
-    arcs: [Arc; 128],
+    arcs: ArrayVec<Arc, 128>,
     ghost size: { in_range events ≡ true },
-    ghost few: { count ≤ 128 },
-    ghost ranges: { every (arc_in_range events) (take count arcs) ≡ true },
+    ghost ranges: { every (arc_in_range events) arcs.items ≡ true },
 }

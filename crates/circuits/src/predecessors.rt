@@ -1,101 +1,74 @@
 // The speed of the search: after each round a circuit among the latest predecessors is taken, if its weights add up to more than 0.
-ghost use Rattle.std.specs.Prelude.{◌≡◌, ℕ, ◌<◌, ◌≤◌, length, IfSome};
-ghost use Rattle.circuits.specs.Arcs.{ArcsBelow, sum, numbers_of};
-ghost use Rattle.circuits.specs.Rounds.{at, WeightsFit, ValuesFit};
-ghost use Rattle.circuits.specs.Walks.{nth, IsChain, ArePredecessors, GainingCircuit};
+ghost use Rattle.std.specs.Prelude.{◌≡◌, ◌<◌, length, IfSome};
+ghost use Rattle.std.proofs.Props.{props};
+ghost use Rattle.circuits.specs.Arcs.{numbers_of};
+ghost use Rattle.circuits.specs.Walks.{IsChain, ArePredecessors, GainingCircuit};
+ghost use Rattle.circuits.specs.Weighed.{arcs_in, weight_in};
 
-use crate::walk::{closed_part, cut_out};
-use crate::{Arc, Circuit};
+use crate::Circuit;
+use crate::rounds::Round;
+use crate::weighed::WeighedNet;
+use arrayvec::ArrayVec;
 
-// Notes, for each event that the new values have higher, an arc that raised it.
-pub(crate) fn note_predecessors(
-    arcs: &[Arc],
-    weights: &[i64],
-    old: &[i64; 32],
-    new: &[i64; 32],
-    latest: &mut [u8; 32],
-)
-    requires paired { length arcs.now ≡ length weights.now }
-    requires within { ArcsBelow 32 arcs.now }
-    requires modest { WeightsFit weights.now }
-    requires roomy { ValuesFit old.now }
-    requires count { length arcs.now ≤ 128 }
-    requires latest { ArePredecessors arcs.now latest.old }
-    ensures { ArePredecessors arcs.now latest.new }
-{
-    for (k, a) in arcs.iter().enumerate() {
-        let x = old[a.from as usize] + weights[k];
-        let j = a.to as usize;
-        if old[j] < x && x == new[j] {
-            latest[j] = k as u8;
+// For each event the latest arc that raised it, if any did, and the event where the way back begins.
+#[derive(Drop)]
+pub(crate) struct Predecessors<'a> {
+    pub net: WeighedNet<'a>,
+    pub latest: [Option<usize>; 32],
+    pub last: usize,
+    ghost event: { last < 32 },
+    ghost known: { ArePredecessors (arcs_in net.arcs.now) latest } by { Prim.hlevel props },
+}
+
+impl<'a> Predecessors<'a> {
+    // No predecessors yet.
+    pub(crate) fn none(net: &WeighedNet<'a>) -> Predecessors<'a>
+        ensures { result.net ≡ net.now }
+    {
+        Predecessors {
+            net: *net,
+            latest: [None; 32],
+            last: 0,
         }
     }
-}
 
-// The arcs of the predecessors back from `last`, if there are `n`.
-fn follow_back(n: usize, arcs: &[Arc], latest: &[u8; 32], last: usize) -> Option<[u8; 32]>
-    requires few { n ≤ 32 }
-    requires within { ArcsBelow 32 arcs.now }
-    requires event { last < 32 }
-    requires latest { ArePredecessors arcs.now latest.now }
-    ensures { IfSome result (IsChain arcs.now n 0) }
-{
-    let mut path = [0u8; 32];
-    let mut e = last;
-    let mut k = n;
-    while k > 0 {
-        k -= 1;
-        let a = latest[e] as usize;
-        if a >= arcs.len() {
-            return None;
-        }
-        path[k] = latest[e];
-        e = arcs[a].from as usize;
-    }
-    Some(path)
-}
-
-// What the weights of a circuit add up to.
-fn weight_along(weights: &[i64], circuit: &Circuit) -> i64
-    requires short { circuit.now.len ≤ 32 }
-    requires known { (i : ℕ) → i < circuit.now.len → nth circuit.now.arcs i < length weights.now }
-    requires modest { WeightsFit weights.now }
-    ensures { result ≡ sum (at weights.now) (numbers_of circuit.now) }
-{
-    let mut total = 0;
-    for i in 0..circuit.len {
-        total += weights[circuit.arcs[i] as usize];
-    }
-    total
-}
-
-// A circuit of the predecessors back from `last`, if it gains.
-pub(crate) fn noted_circuit(
-    n: usize,
-    arcs: &[Arc],
-    weights: &[i64],
-    latest: &[u8; 32],
-    last: usize,
-) -> Option<Circuit>
-    requires paired { length arcs.now ≡ length weights.now }
-    requires some { 0 < n }
-    requires few { n ≤ 32 }
-    requires within { ArcsBelow n arcs.now }
-    requires modest { WeightsFit weights.now }
-    requires event { last < 32 }
-    requires latest { ArePredecessors arcs.now latest.now }
-    ensures { IfSome result (λ f. GainingCircuit arcs.now (at weights.now) (numbers_of f) × (f.len ≤ 32)) }
-{
-    match follow_back(n, arcs, latest, last) {
-        None => None,
-        Some(path) => {
-            let (s, t) = closed_part(n, arcs, &path);
-            let circuit = cut_out(&path, s, t);
-            if weight_along(weights, &circuit) > 0 {
-                Some(circuit)
-            } else {
-                None
+    // Notes, for each event that a round raised, an arc that raised it, and one of those events.
+    pub(crate) fn note(&mut self, round: &Round<'a>, raised: usize)
+        requires net { round.now.net ≡ self.old.net }
+        requires event { raised < 32 }
+        ensures net { self.new.net ≡ self.old.net }
+        ensures last { self.new.last ≡ raised }
+    {
+        self.last = raised;
+        for (number, weighed) in round.net.arcs.iter().enumerate() {
+            if round.raises(weighed) {
+                self.latest[usize::from(weighed.arc.to)] = Some(number);
             }
         }
+    }
+
+    // The arcs back from the event raised last, as many as there are events, if there are so many.
+    fn path(&self) -> Option<ArrayVec<usize, 32>>
+        ensures { IfSome result (λ path. (length path.items ≡ self.now.net.events) × IsChain (arcs_in self.now.net.arcs.now) path.items) }
+    {
+        let mut path = ArrayVec::new();
+        let mut event = self.last;
+        for walked in 0..self.net.events {
+            let arc = self.latest[event]?;
+            path.push(arc);
+            event = usize::from(self.net.arcs[arc].arc.from);
+        }
+        path.reverse();
+        Some(path)
+    }
+
+    // A circuit on the way back, if it gains.
+    pub(crate) fn circuit(&self) -> Option<Circuit>
+        ensures { IfSome result (λ c. GainingCircuit (arcs_in self.now.net.arcs.now) (weight_in self.now.net.arcs.now) (numbers_of c)) }
+    {
+        let path = self.path()?;
+        let circuit = self.net.first_circuit(path.as_slice());
+        let weight = circuit.sum_along(|number| self.net.arcs[number].weight);
+        (weight > 0).then_some(circuit)
     }
 }

@@ -1,95 +1,104 @@
 // The circuit whose ratio of gain to cost is largest: a loop that improves the ratio by each circuit that is better.
-ghost use Rattle.std.specs.Prelude.{◌≡◌, ℕ, ◌<◌, ◌≤◌, length, MatchOption, unsigned_abs};
-ghost use Rattle.circuits.specs.Arcs.{ArcsBelow, ArcsFit, gain_of, cost_of, sum, numbers_of};
-ghost use Rattle.circuits.specs.Ratios.{weight_of, NoneBetter, BetterCircuit, Improved};
-ghost use Rattle.circuits.specs.Rounds.{at, WeightsFit};
-ghost use Rattle.circuits.specs.Walks.{nth};
+ghost use Rattle.std.specs.Prelude.{◌≡◌, ◌<◌, ◌≤◌, length, ◌*ℤ◌, ◌-ℤ◌, MatchResult, unsigned_abs};
+ghost use Rattle.std.specs.List.{All};
+ghost use Rattle.circuits.specs.Arcs.{CircuitOf, numbers_of, ArcFits};
+ghost use Rattle.circuits.specs.Ratios.{OwnSums, BetterCircuit, Improved};
+ghost use Rattle.circuits.specs.Searches.{SettledAgainst};
+ghost use Rattle.circuits.specs.Weighed.{AreWeighed};
 
-use crate::search::gaining_circuit;
-use crate::{Arc, Circuit, WeighedCircuit};
+use crate::weighed::{WeighedArc, WeighedNet};
+use crate::{Arc, ArcNet, Circuit, WeighedCircuit};
+use arrayvec::ArrayVec;
 
-// Each arc weighed against the ratio of `gain` to `cost`.
-pub(crate) fn weights_against(arcs: &[Arc], gain: i64, cost: i64) -> [i64; 128]
-    requires count { length arcs.now ≤ 128 }
-    requires small { ArcsFit arcs.now }
-    requires gains { unsigned_abs gain ≤ 34359738368 }
-    requires costs { unsigned_abs cost ≤ 224 }
-    ensures each { (k : ℕ) → k < length arcs.now → at result k ≡ weight_of arcs.now gain cost k }
-    ensures modest { WeightsFit result }
-{
-    let mut weights = [0i64; 128];
-    for (k, a) in arcs.iter().enumerate() {
-        weights[k] = a.gain * cost - a.cost * gain;
-    }
-    weights
+// The ratio of a gain to a cost, neither of them larger than a circuit's can be.
+#[derive(Clone, Copy)]
+pub(crate) struct Ratio {
+    pub gain: i64,
+    pub cost: i64,
+    ghost gain_small: { unsigned_abs gain ≤ 34359738368 },
+    ghost cost_small: { unsigned_abs cost ≤ 224 },
 }
 
-// What the gains and the costs of a circuit add up to.
-pub(crate) fn sums_along(arcs: &[Arc], circuit: &Circuit) -> (i64, i64)
-    requires short { circuit.now.len ≤ 32 }
-    requires known { (i : ℕ) → i < circuit.now.len → nth circuit.now.arcs i < length arcs.now }
-    requires small { ArcsFit arcs.now }
-    ensures gains { result.0 ≡ sum (gain_of arcs.now) (numbers_of circuit.now) }
-    ensures costs { result.1 ≡ sum (cost_of arcs.now) (numbers_of circuit.now) }
-{
-    let mut gain = 0;
-    let mut cost = 0;
-    for i in 0..circuit.len {
-        let a = arcs[circuit.arcs[i] as usize];
-        gain += a.gain;
-        cost += a.cost;
+impl Ratio {
+    // What an arc weighs against the ratio.
+    fn weight(self, arc: &Arc) -> i64
+        requires { ArcFits arc.now }
+        ensures value { result ≡ (arc.now.gain *ℤ self.cost) -ℤ (arc.now.cost *ℤ self.gain) }
+        ensures modest { unsigned_abs result ≤ 1099511627776 }
+    {
+        arc.gain * self.cost - arc.cost * self.gain
     }
-    (gain, cost)
 }
 
-// A circuit whose ratio is above that of `gain` to `cost`, if there is one.
-fn better_circuit(n: usize, arcs: &[Arc], gain: i64, cost: i64) -> Option<WeighedCircuit>
-    requires some { 0 < n }
-    requires few { n ≤ 32 }
-    requires within { ArcsBelow n arcs.now }
-    requires count { length arcs.now ≤ 128 }
-    requires small { ArcsFit arcs.now }
-    requires gains { unsigned_abs gain ≤ 34359738368 }
-    requires costs { unsigned_abs cost ≤ 224 }
-    ensures { MatchOption result (NoneBetter arcs.now gain cost) (BetterCircuit arcs.now gain cost) }
-{
-    let weights = weights_against(arcs, gain, cost);
-    match gaining_circuit(n, arcs, &weights[0..arcs.len()]) {
-        Ok(_) => None,
-        Err(circuit) => {
-            let (gain, cost) = sums_along(arcs, &circuit);
-            Some(WeighedCircuit {
-                gain,
-                cost,
-                circuit,
-            })
+impl ArcNet {
+    ghost use Rattle.circuits.specs.Holding.{arcs_of};
+
+    // The arcs that were accepted.
+    fn accepted(&self) -> &[Arc]
+        ensures is { result.now ≡ arcs_of self.now }
+        ensures count { length result.now ≤ 128 }
+        ensures small { All ArcFits result.now }
+    {
+        self.arcs.as_slice()
+    }
+
+    // Each arc weighed against a ratio.
+    fn weighed_against(&self, ratio: Ratio) -> ArrayVec<WeighedArc, 128>
+        ensures { AreWeighed (arcs_of self.now) ratio.gain ratio.cost (length (arcs_of self.now)) result.items }
+    {
+        let mut weighed = ArrayVec::new();
+        for arc in self.accepted() {
+            weighed.push(WeighedArc {
+                arc: *arc,
+                weight: ratio.weight(arc),
+            });
+        }
+        weighed
+    }
+
+    // A circuit with what its gains and its costs add up to.
+    fn with_sums(&self, circuit: Circuit) -> WeighedCircuit
+        requires circuit { CircuitOf (arcs_of self.now) (numbers_of circuit) }
+        requires known { All (λ a. a < length (arcs_of self.now)) (numbers_of circuit) }
+        ensures own { OwnSums (arcs_of self.now) result }
+        ensures same { result.circuit ≡ circuit }
+    {
+        let arcs = self.accepted();
+        WeighedCircuit {
+            gain: circuit.sum_along(|number| arcs[number].gain),
+            cost: circuit.sum_along(|number| arcs[number].cost),
+            circuit,
         }
     }
-}
 
-// Of the circuits that cost something, one whose ratio of gain to cost is largest, if there is any; or one that gains for nothing.
-pub(crate) fn improve(n: usize, arcs: &[Arc]) -> Result<Option<WeighedCircuit>, WeighedCircuit>
-    requires some { 0 < n }
-    requires few { n ≤ 32 }
-    requires within { ArcsBelow n arcs.now }
-    requires count { length arcs.now ≤ 128 }
-    requires small { ArcsFit arcs.now }
-    ensures { Improved arcs.now result }
-{
-    let mut best = None;
-    let mut gain = -1;
-    let mut cost = 0;
-    'rising: loop {
-        match better_circuit(n, arcs, gain, cost) {
-            None => break Ok(best),
-            Some(x) => {
-                if x.cost == 0 {
-                    break Err(x);
-                }
-                gain = x.gain;
-                cost = x.cost;
-                best = Some(x);
+    // The values that no arc, weighed against a ratio, would raise, or a circuit whose ratio is above that.
+    pub(crate) fn search_against(&self, ratio: Ratio) -> Result<[i64; 32], WeighedCircuit>
+        ensures { MatchResult result (SettledAgainst (arcs_of self.now) ratio.gain ratio.cost) (BetterCircuit (arcs_of self.now) ratio.gain ratio.cost) }
+    {
+        let weighed = self.weighed_against(ratio);
+        let net = WeighedNet {
+            events: usize::from(self.events),
+            arcs: weighed.as_slice(),
+        };
+        net.settle().map_err(|circuit| self.with_sums(circuit))
+    }
+
+    // Of the circuits that cost something, one whose ratio of gain to cost is largest, if there is any; or one that gains for nothing.
+    pub(crate) fn improve(&self) -> Result<Option<WeighedCircuit>, WeighedCircuit>
+        ensures { Improved (arcs_of self.now) result }
+    {
+        let mut best = None;
+        let mut ratio = Ratio { gain: -1, cost: 0 };
+        'rising: while let Err(circuit) = self.search_against(ratio) {
+            if circuit.cost == 0 {
+                return Err(circuit);
             }
+            ratio = Ratio {
+                gain: circuit.gain,
+                cost: circuit.cost,
+            };
+            best = Some(circuit);
         }
+        Ok(best)
     }
 }

@@ -1,51 +1,40 @@
 // A circuit turned so that it begins at its arc of the lowest number.
-ghost use Rattle.std.specs.Prelude.{◌≡◌, ◌<◌, ◌≤◌, ◌++◌, length, take, drop};
-ghost use Rattle.std.specs.List.{AllByRecursion};
-ghost use Rattle.circuits.specs.Arcs.{numbers_of};
-ghost use Rattle.circuits.specs.Turns.{TurnsToLowest};
+ghost use Rattle.std.specs.Prelude.{◌≡◌, ◌<◌, ◌≤◌, length, [], MatchOption};
+ghost use Rattle.std.specs.List.{All};
+ghost use Rattle.circuits.specs.Turns.{TurnsToLowest, ShownTurned};
 ghost use Rattle.circuits.specs.Walks.{nth};
 
-use crate::Circuit;
+use crate::{Circuit, WeighedCircuit};
 
-// The place of the arc of the lowest number.
-fn lowest_place(circuit: &Circuit) -> usize
-    requires some { 0 < circuit.now.len }
-    requires short { circuit.now.len ≤ 32 }
-    ensures inside { result < circuit.now.len }
-    ensures known { result < length (numbers_of circuit.now) }
-    ensures lowest { AllByRecursion (λ b. nth (numbers_of circuit.now) result ≤ b) (numbers_of circuit.now) }
+// The place of the lowest number, if there is any.
+fn lowest_place(numbers: &[u8]) -> Option<usize>
+    ensures { MatchOption result (numbers.now ≡ []) (λ place. (place < length numbers.now) × All (λ b. nth numbers.now place ≤ b) numbers.now) }
 {
-    let mut place = 0;
-    for k in 1..circuit.len {
-        if circuit.arcs[k] < circuit.arcs[place] {
-            place = k;
+    let lowest = numbers.iter().min()?;
+    numbers.iter().position(|number| number == lowest)
+}
+
+impl Circuit {
+    // The circuit from its arc of the lowest number on.
+    pub(crate) fn turned_to_lowest(mut self) -> Circuit
+        ensures { TurnsToLowest self result }
+    {
+        if let Some(place) = lowest_place(self.arcs.as_slice()) {
+            self.arcs.rotate_left(place);
+        }
+        self
+    }
+}
+
+impl WeighedCircuit {
+    // The circuit with its sums, from its arc of the lowest number on.
+    pub(crate) fn turned_to_lowest(self) -> WeighedCircuit
+        ensures { ShownTurned self result }
+    {
+        WeighedCircuit {
+            gain: self.gain,
+            cost: self.cost,
+            circuit: self.circuit.turned_to_lowest(),
         }
     }
-    place
-}
-
-// The circuit from its arc at `place` on, and then the arcs before that.
-fn turned(circuit: &Circuit, place: usize) -> Circuit
-    requires inside { place < circuit.now.len }
-    requires short { circuit.now.len ≤ 32 }
-    ensures numbers { numbers_of result ≡ drop place (numbers_of circuit.now) ++ take place (numbers_of circuit.now) }
-    ensures len { result.len ≡ circuit.now.len }
-{
-    let len = circuit.len;
-    let mut arcs = [0u8; 32];
-    for i in 0..len {
-        let k = place + i;
-        let from = if k < len { k } else { k - len };
-        arcs[i] = circuit.arcs[from];
-    }
-    Circuit { arcs, len }
-}
-
-// The circuit from its arc of the lowest number on.
-pub(crate) fn from_lowest(circuit: &Circuit) -> Circuit
-    requires some { 0 < circuit.now.len }
-    requires short { circuit.now.len ≤ 32 }
-    ensures { TurnsToLowest circuit.now result }
-{
-    turned(circuit, lowest_place(circuit))
 }

@@ -1,22 +1,18 @@
 -- A table of recovery times: a row of n cells for each of n events, in each a number of seconds or none.
-use Rattle.std.specs.Prelude.{◌≡◌, ℕ, ◌+◌, ◌*◌, ◌/◌, ◌%◌, cond, List, map, length, ℤ, pos, negsuc, Some, None, Option, nat_lt}
+use Rattle.std.specs.Prelude.{◌≡◌, ℕ, ◌+◌, ◌*◌, ◌/◌, ◌%◌, List, map, length, ℤ, pos, negsuc, Some, None, Option}
 use Rattle.std.specs.List.{range_with_len}
 use Rattle.std.specs.Option.{option_map}
 use Rattle.timetable.specs.declared.Constraint.{Constraint}
 use Rattle.delays.specs.declared.Cell.{Cell}
 use Rattle.delays.specs.Recovery.{recovery_on}
 
--- the number that stands for none in a cell: recovery times of a board lie far below it
-abbrev pub no_way : ℕ
-no_way = 1073741824
-
 -- the cell that says none
 abbrev pub empty_cell : Cell
-empty_cell = record { slack = no_way }
+empty_cell = record { slack = None }
 
 -- what a cell says
 abbrev pub told : Cell → Option ℕ
-told cell = cond (nat_lt cell.slack no_way) (Some cell.slack) None
+told cell = cell.slack
 
 -- a number of its own for each recovery time and for none, so that lists of them are compared as lists of numbers
 abbrev pub code : Option ℤ → ℕ

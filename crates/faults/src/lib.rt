@@ -41,9 +41,11 @@ impl fmt::Display for Report {
     ghost output = { λ report. Some (report_text report) };
 
     fn fmt<W: fmt::Write>(&self, f: &mut fmt::Formatter<W>) -> fmt::Result {
-        let layer = self.layer;
-        let number = self.number;
-        let place = self.place;
+        let Report {
+            layer,
+            number,
+            place,
+        } = *self;
         write!(f, "{layer} {number} {place}")
     }
 }

@@ -9,9 +9,6 @@ use std::alloc::{AllocError, Global};
 use std::io;
 use std::io::Read;
 
-// As many tickets as a session can hold.
-const TICKETS: u8 = 128;
-
 // What a line of the script prints: the reply to its call, that the second planner takes over, or that it is unknown.
 #[derive(Clone, Copy)]
 enum Printed {
@@ -20,35 +17,27 @@ enum Printed {
     Unknown,
 }
 
-// A script: the calls of the first planner and of the one who takes over, and what each line prints.
+// A script: the calls of the first planner, those of the one who takes over, where one does, and what each line prints.
 #[derive(Drop)]
 struct Script {
     first: Vec<Call>,
-    second: Vec<Call>,
-    taken_over: bool,
+    second: Option<Vec<Call>>,
     printed: Vec<Printed>,
 }
 
 impl Script {
     // Takes up one line. There is one takeover at most: a second one is unknown.
-    fn take(&mut self, line: Line) -> Result<(), AllocError> {
+    fn take(&mut self, heap: Global, line: Line) -> Result<(), AllocError> {
         let printed = match line {
             Line::Silent => return Ok(()),
             Line::Unknown => Printed::Unknown,
+            Line::Takeover if self.second.is_some() => Printed::Unknown,
             Line::Takeover => {
-                if self.taken_over {
-                    Printed::Unknown
-                } else {
-                    self.taken_over = true;
-                    Printed::Takeover
-                }
+                self.second = Some(Vec::new(heap));
+                Printed::Takeover
             }
             Line::Call(call) => {
-                if self.taken_over {
-                    self.second.push(call)?;
-                } else {
-                    self.first.push(call)?;
-                }
+                self.second.as_mut().unwrap_or(&mut self.first).push(call)?;
                 Printed::Reply
             }
         };
@@ -60,28 +49,28 @@ impl Script {
     fn read(heap: Global, text: &[u8]) -> Result<Script, AllocError> {
         let mut script = Script {
             first: Vec::new(heap),
-            second: Vec::new(heap),
-            taken_over: false,
+            second: None,
             printed: Vec::new(heap),
         };
         let mut rest = text;
         while let Some((line, behind)) = next_line(rest) {
-            script.take(read_line(heap, line)?)?;
+            script.take(heap, read_line(heap, line)?)?;
             rest = behind;
         }
         Ok(script)
     }
 }
 
-// Prints what each line of the script prints, in order.
+// Prints what each line of the script prints, in order. The lines that make no call stand between the replies, so a line that makes one takes
+// the next reply.
 fn print_replies(rt: &HostRuntime, printed: &[Printed], replies: &[Reply]) -> io::Result<()> {
-    let mut next = replies.iter();
+    let mut replies = replies.iter();
     for line in printed {
         match line {
             Printed::Takeover => println!(rt; "takeover")?,
             Printed::Unknown => println!(rt; "unknown")?,
             Printed::Reply => {
-                if let Some(reply) = next.next() {
+                if let Some(reply) = replies.next() {
                     println!(rt; "{reply}")?;
                 }
             }
@@ -92,10 +81,7 @@ fn print_replies(rt: &HostRuntime, printed: &[Printed], replies: &[Reply]) -> io
 
 // Dismisses what is still suspended, the lowest number first, and prints each ticket.
 fn print_closing(rt: &HostRuntime, session: &mut Session) -> io::Result<()> {
-    for _ in 0..TICKETS {
-        let Some((mark, number)) = session.dismiss_lowest() else {
-            break;
-        };
+    while let Some((mark, number)) = session.dismiss_lowest() {
         println!(rt; "closing dismiss {mark} {number}")?;
     }
     Ok(())
@@ -104,9 +90,11 @@ fn print_closing(rt: &HostRuntime, session: &mut Session) -> io::Result<()> {
 // Performs the script in a session, and prints.
 fn run(rt: &HostRuntime, session: &mut Session, script: &Script) -> io::Result<()> {
     let mut replies = Vec::new(rt.alloc());
-    session.perform(script.first.as_slice(), &mut replies)?;
-    session.perform(script.second.as_slice(), &mut replies)?;
-    print_replies(rt, script.printed.as_slice(), replies.as_slice())?;
+    session.perform(&script.first, &mut replies)?;
+    if let Some(second) = &script.second {
+        session.perform(second, &mut replies)?;
+    }
+    print_replies(rt, &script.printed, &replies)?;
     print_closing(rt, session)
 }
 
@@ -114,7 +102,7 @@ fn main(rt: HostRuntime) -> io::Result<()> {
     let heap = rt.alloc();
     let mut text = Vec::new(heap);
     let _ = rt.stdin().read_to_end(&mut text)?;
-    let script = Script::read(heap, text.as_slice())?;
+    let script = Script::read(heap, &text)?;
     let mut session = Session::new(heap)?;
     let outcome = run(&rt, &mut session, &script);
     let _ = session.close();

@@ -1,180 +1,137 @@
 -- Closing a session: the first ticket that it holds is that of the lowest suspended number; dismissing it leaves one suspended constraint
 -- less, and in the end all that was suspended is withdrawn.
-use Rattle.std.proofs.Common.{◌≡◌, ℕ, zero, suc, ◌<◌, ◌≤◌, Bool, true, false, cond, eqb, ◌⊎◌, List, [], ◌∷◌, map, length, get_or, Some, None, Option, unwrap_or, sym, refl, ap, ◌∙◌, inl, inr, ⊎_elim, arith}
-use borrow.Author.Tests.{clash}
+use Rattle.std.proofs.Common.{◌≡◌, ℕ, zero, suc, ◌<◌, Bool, true, false, cond, List, [], ◌∷◌, map, length, get_or, is_some, Some, None, Option, unwrap_or, refl, ap, ◌∙◌, sym, ⊎_elim, arith}
 use Rattle.std.specs.Option.{option_map}
 use Rattle.std.proofs.lemmas.Bool.{cases_lt}
 use Rattle.std.proofs.lemmas.Bool.Decides.{nat_tests}
-use Rattle.faults.specs.Causes.{unless}
+use Rattle.std.proofs.lemmas.List.{get_or_past}
 use Rattle.runs.specs.Gaining.{found_or, lowest}
-use Rattle.runs.proofs.Searches.{lowest_found, lowest_passes, none_passes, and_both}
 use Rattle.timetable.specs.declared.Constraint.{Constraint}
 use Rattle.timetable.specs.declared.State.{State}
 use Rattle.timetable.specs.declared.State.TheVariants.{Standing, Suspended, Withdrawn}
 use Rattle.timetable.specs.declared.LedgerEvent.TheVariants.{Dismiss}
 use Rattle.timetable.specs.Words.{suspended, row_at}
 use Rattle.timetable.specs.Changes.{state_after, with_state, moved, changed}
-use Rattle.timetable.proofs.Changed.{row_past}
 use Rattle.board.specs.declared.Ticket.{Ticket}
 use Rattle.board.specs.declared.fault.BoardFault.{BoardFault}
-use Rattle.board.specs.declared.fault.BoardFault.TheVariants.{Ticket as TicketFault}
-use Rattle.board.specs.Ledger.{Held, Ledger, nothing, holding, mark_of, unless_refused, changed_at, spend_fault}
-use Rattle.board.specs.Lending.{rows_of}
-use Rattle.calls.specs.declared.Call.TheVariants as call
-use Rattle.calls.specs.declared.CallFault.TheVariants as fault
-use Rattle.calls.specs.declared.Reply.TheVariants as reply
-use Rattle.calls.specs.Replies.{accepted}
-use Rattle.calls.specs.Histories.{unless_fault}
+use Rattle.board.specs.Ledger.{Ledger, nothing, holding, mark_of, unless_refused, changed_at, spend_fault, spend_after}
 use Rattle.calls.specs.Laws.{now_suspended}
-use Rattle.calls.proofs.Balance.{balance_one}
-use Rattle.planning.specs.Tickets.{suspended_in, ticket_due, HoldsTickets, lowest_ticket, dismissed_lowest, closed}
-use Rattle.planning.specs.Places.{first_held}
-use Rattle.planning.proofs.Held.{is_held, IsHeld, refused_new, mark_in, number_in}
+use Rattle.calls.proofs.Balance.{spending_one}
+use Rattle.planning.specs.Tickets.{suspended_in, HoldsTickets, lowest_ticket, dismissed_lowest, closed}
+use Rattle.planning.specs.Places.{NoneHeld, FirstHeld}
 
--- what a due ticket says
-due_some : (l : Ledger) (k : ℕ) (t : Ticket) → ticket_due l k ≡ Some t → (suspended_in l k ≡ true) × (t.mark ≡ mark_of l) × (t.number ≡ k)
-unfolding mark_in number_in
-due_some l k t e = by (suspended_in l k) refl
-  where
-    by : (b : Bool) → suspended_in l k ≡ b → (suspended_in l k ≡ true) × (t.mark ≡ mark_of l) × (t.number ≡ k)
-    by false is = absurd (refused_new (sym (sym (ap (λ x. cond x (Some (record { mark = mark_of l; number = k })) None) is) ∙ e)))
-    by true is =
-        let own : Some (record { mark = mark_of l; number = k }) ≡ Some t = sym (ap (λ x. cond x (Some (record { mark = mark_of l; number = k })) None) is) ∙ e in
-        (is, sym (ap mark_in own), sym (ap number_in own))
+not_found : (o : Option ℕ) (b : Bool) (n : ℕ) → found_or o b n ≡ None → (o ≡ None) × (b ≡ false)
+not_found (Some k) b n e = cc
+not_found None true n e = cc
+not_found None false n e = (refl, refl)
 
-due_none : (l : Ledger) (k : ℕ) → ticket_due l k ≡ None → suspended_in l k ≡ false
-due_none l k e = by (suspended_in l k) refl
-  where
-    by : (b : Bool) → suspended_in l k ≡ b → b ≡ false
-    by false is = refl
-    by true is = absurd (refused_new (sym (ap (λ x. cond x (Some (record { mark = mark_of l; number = k })) None) is) ∙ e))
+-- the lowest number that passes a test, by what passes below it
+module _ (passes : ℕ → Bool) where
+  lowest_none : (n : ℕ) → ((j : ℕ) → j < n → passes j ≡ false) → lowest passes n ≡ None
+  lowest_none zero fails = refl
+  lowest_none (suc n) fails = rw (lowest_none n (λ j lt. fails j (omega arith)), fails n (omega arith)) refl
 
-lowest_none : (passes : ℕ → Bool) (n : ℕ) → ((j : ℕ) → j < n → passes j ≡ false) → lowest passes n ≡ None
-lowest_none passes zero fails = refl
-lowest_none passes (suc n) fails = ap (λ o. found_or o (passes n) n) (lowest_none passes n (λ j lt. fails j (omega arith))) ∙ ap (λ t. cond t (Some n) None) (fails n (omega arith))
+  lowest_is : (n j : ℕ) → j < n → passes j ≡ true → ((i : ℕ) → i < j → passes i ≡ false) → lowest passes n ≡ Some j
+  lowest_is zero j lt good before = absurd (omega arith)
+  lowest_is (suc n) j lt good before = ⊎_elim (λ lower. rw (lowest_is n j lower good before) refl) (λ le. let same : n ≡ j = omega arith in rw (same, lowest_none j before, good) refl) (cases_lt j n)
 
--- the first ticket stands in a place, and none before it; or there is none at all
-FirstAt : List (Option Ticket) → Type 0
-FirstAt places = (i : ℕ) × (t : Ticket) × (get_or places i None ≡ Some t) × ((j : ℕ) → j < i → get_or places j None ≡ None) × (first_held places ≡ Some (t.mark, t.number)) × (i < length places)
+  none_passes : (n : ℕ) → lowest passes n ≡ None → (j : ℕ) → j < n → passes j ≡ false
+  none_passes zero none j lt = absurd (omega arith)
+  none_passes (suc n) none j lt =
+      let fails = not_found (lowest passes n) (passes n) n none in
+      ⊎_elim (λ lower. none_passes n fails.0 j lower) (λ le. let same : j ≡ n = omega arith in rw same fails.1) (cases_lt j n)
 
-first_view : (places : List (Option Ticket)) → ((first_held places ≡ None) × ((j : ℕ) → get_or places j None ≡ None)) ⊎ FirstAt places
-unfolding FirstAt
-first_view [] = inl (refl, λ j. refl)
-first_view (Some t ∷ places) = inr (0, t, refl, (λ j lt. absurd (omega arith)), refl, omega arith)
-first_view (None ∷ places) = step (first_view places)
-  where
-    all_none : ((k : ℕ) → get_or places k None ≡ None) → (j : ℕ) → get_or (None ∷ places) j None ≡ None
-    all_none none zero = refl
-    all_none none (suc k) = none k
+-- where a ticket is due, and where none is
+due_some : (t u : Ticket) (b : Bool) → cond b (Some t) None ≡ Some u → (b ≡ true) × (t ≡ u)
+due_some t u false e = cc
+due_some t u true e = (refl, cc)
 
-    none_before : (i : ℕ) → ((k : ℕ) → k < i → get_or places k None ≡ None) → (j : ℕ) → j < suc i → get_or (None ∷ places) j None ≡ None
-    none_before i none zero lt = refl
-    none_before i none (suc k) lt = none k (omega arith)
+due_none : (t : Ticket) (b : Bool) → cond b (Some t) None ≡ None → b ≡ false
+due_none t false e = refl
+due_none t true e = cc
 
-    step : ((first_held places ≡ None) × ((j : ℕ) → get_or places j None ≡ None)) ⊎ FirstAt places → ((first_held places ≡ None) × ((j : ℕ) → get_or (None ∷ places) j None ≡ None)) ⊎ FirstAt (None ∷ places)
-    step (inl none) = inl (none.0, all_none none.1)
-    step (inr f) = inr (suc f.0, f.1, f.2, none_before f.0 f.3, f.4, omega (arith, f.5))
+-- the first ticket held is the board's own, of a number that is suspended
+first_due : (l : Ledger) (places : List (Option Ticket)) (name : ℕ × ℕ) → HoldsTickets l places → FirstHeld places name → (suspended_in l name.1 ≡ true) × (mark_of l ≡ name.0)
+first_due l places name held first =
+    let due = due_some _ _ (suspended_in l name.1) (sym (held name.1) ∙ first.0) in
+    (due.0, ap (λ (t : Ticket). t.mark) due.1)
 
-pub lowest_first : (l : Ledger) (places : List (Option Ticket)) → HoldsTickets l places → length places ≡ 128 → first_held places ≡ lowest_ticket l
-unfolding FirstAt IsHeld
-lowest_first l places holds len =
-    ⊎_elim
-    (λ none. none.0 ∙ sym (ap (option_map (λ k. (mark_of l, k))) (lowest_none (suspended_in l) 128 (λ j lt. due_none l j (sym (held j) ∙ none.1 j)))))
-    (λ f.
-    let i = f.0 in
-    let t = f.1 in
-    let due = due_some l i t (sym (held i) ∙ f.2) in
-    let before = lowest_none (suspended_in l) i (λ j lt. due_none l j (sym (held j) ∙ f.3 j lt)) in
-    let low = lowest_found (suspended_in l) i 128 (omega (arith, f.5, len)) before due.0 in
-    f.4 ∙ (ap (λ (m : ℕ). Some (m, t.number)) due.1 ∙ (ap (λ (n : ℕ). Some (mark_of l, n)) due.2 ∙ sym (ap (option_map (λ k. (mark_of l, k))) low))))
-    (first_view places)
-  where
-    held : (k : ℕ) → get_or places k None ≡ ticket_due l k
-    held = is_held l places holds
+-- a place that holds a ticket is there
+held_inside : (places : List (Option Ticket)) (k : ℕ) (t : Ticket) → get_or places k None ≡ Some t → k < length places
+held_inside places k t e = ⊎_elim (λ lt. lt) (λ past. let none = rw (get_or_past places k None past) at e in cc) (cases_lt k (length places))
 
--- the lowest ticket is the board's own
-lowest_some : (l : Ledger) (t : ℕ × ℕ) → lowest_ticket l ≡ Some t → (t.0 ≡ mark_of l) × (suspended_in l t.1 ≡ true)
-lowest_some l t e = by (lowest (suspended_in l) 128) refl
-  where
-    by : (o : Option ℕ) → lowest (suspended_in l) 128 ≡ o → (t.0 ≡ mark_of l) × (suspended_in l t.1 ≡ true)
-    by None is = absurd (refused_new (sym (sym (ap (option_map (λ k. (mark_of l, k))) is) ∙ e)))
-    by (Some k) is =
-        let pair : Some (mark_of l, k) ≡ Some t = sym (ap (option_map (λ k. (mark_of l, k))) is) ∙ e in
-        let mark : mark_of l ≡ t.0 = cc in
-        let number : k ≡ t.1 = cc in
-        (sym mark, ap (suspended_in l) (sym number) ∙ lowest_passes (suspended_in l) 128 k is)
+-- the first ticket held is that of the lowest suspended number, and where none is held, none is suspended
+pub first_lowest : (l : Ledger) (places : List (Option Ticket)) (n : ℕ) (name : ℕ × ℕ) → length places ≡ n → HoldsTickets l places → FirstHeld places name → Some name ≡ option_map {U = ℕ × ℕ} (λ k. (mark_of l, k)) (lowest (suspended_in l) n)
+first_lowest l places n name len held first =
+    let due = first_due l places name held first in
+    let inside : name.1 < n = omega (arith, held_inside places name.1 _ first.0) in
+    rw (lowest_is (suspended_in l) n name.1 inside due.0 (λ j lt. due_none _ (suspended_in l j) (sym (held j) ∙ first.1 j lt)), due.1) refl
 
-lowest_accepted : (l : Ledger) (t : ℕ × ℕ) → lowest_ticket l ≡ Some t → spend_fault l t.0 t.1 ≡ None
-lowest_accepted nothing t e = absurd (clash (lowest_some nothing t e).1)
-lowest_accepted (holding h) t e =
-    let low = lowest_some (holding h) t e in
-    let same : eqb h.mark t.0 ≡ true = ap (λ m. eqb h.mark m) low.0 ∙ same_mark h.mark in
-    ap (λ x. unless x TicketFault None) (and_both _ _ same low.1)
-  where
-    same_mark : (m : ℕ) → eqb m m ≡ true
-    same_mark m = grind (arith, nat_tests)
+pub none_lowest : (l : Ledger) (places : List (Option Ticket)) (n : ℕ) → HoldsTickets l places → NoneHeld places → None ≡ option_map {U = ℕ × ℕ} (λ k. (mark_of l, k)) (lowest (suspended_in l) n)
+none_lowest l places n held none = rw (lowest_none (suspended_in l) n (λ j lt. due_none _ (suspended_in l j) (sym (held j) ∙ none j))) refl
 
--- each dismissal leaves one suspended constraint less
-pub one_less : (l m : Ledger) (t : ℕ × ℕ) → lowest_ticket l ≡ Some t → m ≡ dismissed_lowest l (Some t) → now_suspended m < now_suspended l
-one_less l m t e after =
-    let balance = balance_one l (call.Dismiss t.0 t.1) in
-    let yes-one : ◌≡◌ {A = ℕ} (cond (accepted (unless_fault (option_map fault.Board (spend_fault l t.0 t.1)) reply.Done)) 1 0) 1 = ap (λ (o : Option BoardFault). cond (accepted (unless_fault (option_map fault.Board o) reply.Done)) 1 0) (lowest_accepted l t e) in
-    let now_is : now_suspended m ≡ now_suspended (dismissed_lowest l (Some t)) = ap now_suspended after in
-    omega (arith, balance, yes-one, now_is)
+-- its dismissal leaves one suspended constraint less
+accepted_due : (l : Ledger) (k : ℕ) → suspended_in l k ≡ true → spend_fault l (mark_of l) k ≡ None
+accepted_due nothing k e = cc
+accepted_due (holding h) k e = grind (arith, nat_tests)
+
+pub one_less : (l : Ledger) (places : List (Option Ticket)) (name : ℕ × ℕ) → HoldsTickets l places → FirstHeld places name → now_suspended (spend_after Dismiss l name.0 name.1) < now_suspended l
+one_less l places name held first =
+    let due = first_due l places name held first in
+    let accepted = rw due.1 at (accepted_due l name.1 due.0) in
+    let less = rw accepted at (spending_one Dismiss refl l name.0 name.1 (spend_fault l name.0 name.1) refl) in
+    rw accepted (omega (arith, less))
 
 -- dismissing one row first changes nothing of what all dismissals leave
-dismissed_twice : (state : State) → unwrap_or (state_after (unwrap_or (state_after state Dismiss) state) Dismiss) (unwrap_or (state_after state Dismiss) state) ≡ unwrap_or (state_after state Dismiss) state
-dismissed_twice Standing = refl
-dismissed_twice Suspended = refl
-dismissed_twice Withdrawn = refl
-
 again : (c : Constraint) → moved Dismiss (moved Dismiss c) ≡ moved Dismiss c
-again c = ap (with_state c) (dismissed_twice c.state)
+again c = elim c.state as (λ s. moved Dismiss (moved Dismiss (with_state c s)) ≡ moved Dismiss (with_state c s)) [ Standing ↦ refl | Suspended ↦ refl | Withdrawn ↦ refl ]
 
 rows_again : (rows : List Constraint) (k : ℕ) → map (moved Dismiss) (changed (moved Dismiss) rows k) ≡ map (moved Dismiss) rows
 rows_again [] k = refl
 rows_again (c ∷ rows) zero = ap (λ (x : Constraint). x ∷ map (moved Dismiss) rows) (again c)
 rows_again (c ∷ rows) (suc k) = ap (λ (xs : List Constraint). moved Dismiss c ∷ xs) (rows_again rows k)
 
-with_rows : Held → List Constraint → Ledger
-with_rows h rows = holding (record { mark = h.mark; events = h.events; period = h.period; departures = h.departures; rows = rows })
-
 closed_unless : (f : Option BoardFault) (l : Ledger) (k : ℕ) → closed (unless_refused f (changed_at (moved Dismiss) k l) l) ≡ closed l
-unfolding with_rows
 closed_unless (Some f) l k = refl
 closed_unless None nothing k = refl
-closed_unless None (holding h) k = ap (with_rows h) (rows_again h.rows k)
+closed_unless None (holding h) k = rw (rows_again h.rows k) refl
 
-pub closed_on : (l m : Ledger) (t : ℕ × ℕ) → m ≡ dismissed_lowest l (Some t) → closed m ≡ closed l
-closed_on l m t after = ap closed after ∙ closed_unless (spend_fault l t.0 t.1) l t.1
+pub closed_on : (l : Ledger) (name : Option (ℕ × ℕ)) → closed (dismissed_lowest l name) ≡ closed l
+closed_on l None = refl
+closed_on l (Some name) = closed_unless (spend_fault l name.0 name.1) l name.1
 
--- where nothing is suspended, dismissing all changes nothing
-state_settled : (state : State) → suspended state ≡ false → unwrap_or (state_after state Dismiss) state ≡ state
-state_settled Standing e = refl
-state_settled Suspended e = absurd (clash (sym e))
-state_settled Withdrawn e = refl
+-- where there is no lowest ticket, nothing is suspended: no ticket is held, and dismissing all changes nothing
+not_mapped : (mark : ℕ) (o : Option ℕ) → option_map {U = ℕ × ℕ} (λ k. (mark, k)) o ≡ None → o ≡ None
+not_mapped mark None e = refl
+not_mapped mark (Some k) e = cc
+
+none_suspended : (l : Ledger) (places : List (Option Ticket)) (n : ℕ) → length places ≡ n → HoldsTickets l places → option_map {U = ℕ × ℕ} (λ k. (mark_of l, k)) (lowest (suspended_in l) n) ≡ None → (k : ℕ) → suspended_in l k ≡ false
+none_suspended l places n len held none k =
+    ⊎_elim
+    (λ inside. none_passes (suspended_in l) n (not_mapped (mark_of l) (lowest (suspended_in l) n) none) k inside)
+    (λ past. due_none _ (suspended_in l k) (sym (held k) ∙ get_or_past places k None (omega arith)))
+    (cases_lt k n)
+
+-- a session that has no ticket left to dismiss
+pub none_left : (l m : Ledger) (name : Option (ℕ × ℕ)) → is_some name ≡ false → name ≡ lowest_ticket l → m ≡ dismissed_lowest l name → lowest_ticket m ≡ None
+none_left l m None last is after = rw after (sym is)
+none_left l m (Some name) last is after = cc
+
+pub none_held : (l : Ledger) (places : List (Option Ticket)) → length places ≡ 128 → HoldsTickets l places → lowest_ticket l ≡ None → NoneHeld places
+none_held l places len held none k = rw (held k, none_suspended l places 128 len held none k) refl
+
+row_settled : (c : Constraint) → suspended c.state ≡ false → moved Dismiss c ≡ c
+row_settled c e = ap (with_state c) (state_settled c.state e)
+  where
+    state_settled : (s : State) → suspended s ≡ false → unwrap_or (state_after s Dismiss) s ≡ s
+    state_settled Standing e = refl
+    state_settled Suspended e = cc
+    state_settled Withdrawn e = refl
 
 rows_settled : (rows : List Constraint) → ((k : ℕ) → suspended (row_at rows k).state ≡ false) → map (moved Dismiss) rows ≡ rows
 rows_settled [] none = refl
-rows_settled (c ∷ rows) none = ap (λ (s : State). with_state c s ∷ map (moved Dismiss) rows) (state_settled c.state (none 0)) ∙ ap (λ (xs : List Constraint). c ∷ xs) (rows_settled rows (λ k. none (suc k)))
+rows_settled (c ∷ rows) none = rw (row_settled c (none 0), rows_settled rows (λ k. none (suc k))) refl
 
-none_left : (l : Ledger) → lowest_ticket l ≡ None → length (rows_of l) ≤ 128 → (k : ℕ) → suspended_in l k ≡ false
-none_left nothing e few k = refl
-none_left (holding h) e few k =
-    ⊎_elim
-    (λ lt. none_passes (suspended_in (holding h)) 128 (by (lowest (suspended_in (holding h)) 128) refl) k lt)
-    (λ ge. ap (λ (c : Constraint). suspended c.state) (row_past h.rows k (omega (arith, ge, few))))
-    (cases_lt k 128)
-  where
-    by : (o : Option ℕ) → lowest (suspended_in (holding h)) 128 ≡ o → o ≡ None
-    by None is = refl
-    by (Some j) is = absurd (refused_new (sym (ap (option_map (λ k. (h.mark, k))) is) ∙ e))
-
-pub closed_settled : (l : Ledger) → lowest_ticket l ≡ None → length (rows_of l) ≤ 128 → closed l ≡ l
-unfolding with_rows
-closed_settled nothing e few = refl
-closed_settled (holding h) e few = ap (with_rows h) (rows_settled h.rows (none_left (holding h) e few))
-
-pub none_held : (l : Ledger) (places : List (Option Ticket)) → HoldsTickets l places → lowest_ticket l ≡ None → length (rows_of l) ≤ 128 → (k : ℕ) → get_or places k None ≡ None
-unfolding IsHeld
-none_held l places holds e few k = is_held l places holds k ∙ ap (λ b. cond b (Some (record { mark = mark_of l; number = k })) None) (none_left l e few k)
+pub closed_settled : (l : Ledger) (places : List (Option Ticket)) → length places ≡ 128 → HoldsTickets l places → lowest_ticket l ≡ None → closed l ≡ l
+closed_settled nothing places len held none = refl
+closed_settled (holding h) places len held none = rw (rows_settled h.rows (none_suspended (holding h) places 128 len held none)) refl

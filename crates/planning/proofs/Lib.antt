@@ -1,4 +1,2 @@
-pub mod Places
 pub mod Held
-pub mod Taken
 pub mod Closing

@@ -1,5 +1,5 @@
 -- Places for tickets, by the numbers of their constraints.
-use Rattle.std.specs.Prelude.{ℕ, cond, List, [], ◌∷◌, is_some, Some, None, vec_items, Option, ◌==◌, slice_index_or, slice_set}
+use Rattle.std.specs.Prelude.{◌≡◌, ℕ, ◌<◌, cond, List, is_some, Some, None, vec_items, Option, ◌==◌, slice_index_or, slice_set}
 use Rattle.board.specs.declared.Ticket.{Ticket}
 use Rattle.planning.specs.declared.HeldTickets.{HeldTickets}
 
@@ -20,8 +20,10 @@ ticket_of places mark number = of_mark mark (slice_index_or places number None)
 abbrev pub without : List (Option Ticket) → ℕ → ℕ → List (Option Ticket)
 without places mark number = cond (is_some (ticket_of places mark number)) (slice_set places number None) places
 
--- mark and number of the first ticket that is held
-abbrev pub first_held : List (Option Ticket) → Option (ℕ × ℕ)
-first_held [] = None
-first_held (None ∷ places) = first_held places
-first_held (Some t ∷ places) = Some (t.mark, t.number)
+-- no place holds a ticket
+abbrev pub NoneHeld : List (Option Ticket) → Type 0
+NoneHeld places = (k : ℕ) → slice_index_or places k None ≡ None
+
+-- the place of a number holds a ticket of that mark and number, and no place before it holds any
+abbrev pub FirstHeld : List (Option Ticket) → ℕ × ℕ → Type 0
+FirstHeld places name = (slice_index_or places name.1 None ≡ Some (record { mark = name.0; number = name.1 })) × ((j : ℕ) → j < name.1 → slice_index_or places j None ≡ None)

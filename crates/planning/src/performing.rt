@@ -1,42 +1,19 @@
 // Making a session and performing calls on its board.
-ghost use Rattle.std.specs.Prelude.{◌≡◌, ◌++◌, IfOk, if◌then◌else◌, MatchResult};
+ghost use Rattle.std.specs.Prelude.{◌≡◌, ◌++◌, ◌<◌, true, false, not, IfSome, IfOk, MatchResult};
 ghost use Rattle.faults.specs.Causes.{fault_of};
-ghost use Rattle.timetable.specs.declared.LedgerEvent.TheVariants.{Restore, Dismiss};
-ghost use Rattle.board.specs.Ledger.{nothing, suspend_fault, suspend_after, mark_of, spend_fault, spend_after, SpentOrBack};
+ghost use Rattle.timetable.specs.declared.LedgerEvent.{LedgerEvent};
+ghost use Rattle.board.specs.Ledger.{nothing, suspend_fault, suspend_after, mark_of, spend_fault, spend_after};
 ghost use Rattle.board.specs.Holding.{ledger_of};
-ghost use Rattle.planning.specs.Tickets.{not_held, lowest_ticket, dismissed_lowest, closed};
-ghost use Rattle.std.specs.Option.{option_map};
-ghost use Rattle.calls.specs.declared.CallFault.TheVariants.{Board as ByBoard, Load as ByLoad};
-ghost use Rattle.calls.specs.declared.Reply.TheVariants.{Done};
-ghost use Rattle.calls.specs.Histories.{unless_fault, call_after, reply_to, ledger_through, replies_to};
-ghost use Rattle.calls.specs.Laws.{HistoryLaw};
+ghost use Rattle.planning.specs.Tickets.{not_held, EndsSuspension, Spends, lowest_ticket, dismissed_lowest, closed};
+ghost use Rattle.calls.specs.Histories.{outcome_of, call_after, reply_to, ledger_through, replies_to};
+ghost use Rattle.calls.specs.Laws.{now_suspended, HistoryLaw};
 ghost use Rattle.planning.specs.Sessions.{session_ledger};
 
-use crate::{HeldTickets, Session, numbers};
+use crate::numbers::board_number;
+use crate::{HeldTickets, Session};
 use board::{Board, BoardFault, Ticket};
-use board_file::LoadFault;
-use calls::{Call, CallFault, Reply};
+use calls::{Answer, Call, CallFault, Reply};
 use std::alloc::{AllocError, Global};
-
-// The reply to a call that tells only that it is done, or refused by the board.
-fn done(outcome: Result<(), BoardFault>) -> Reply
-    ensures { result ≡ unless_fault (option_map ByBoard (fault_of outcome)) Done }
-{
-    match outcome {
-        Ok(()) => Reply::Done,
-        Err(fault) => Reply::Refused(CallFault::Board(fault)),
-    }
-}
-
-// The reply to a load.
-fn loaded(outcome: Result<(), LoadFault<BoardFault>>) -> Reply
-    ensures { result ≡ unless_fault (option_map ByLoad (fault_of outcome)) Done }
-{
-    match outcome {
-        Ok(()) => Reply::Done,
-        Err(fault) => Reply::Refused(CallFault::Load(fault)),
-    }
-}
 
 // The fault of presenting a ticket that the session does not hold.
 fn not_held(board: &Board) -> BoardFault
@@ -45,18 +22,6 @@ fn not_held(board: &Board) -> BoardFault
     match board.summary() {
         None => BoardFault::New,
         Some(_) => BoardFault::Ticket,
-    }
-}
-
-// Spends a ticket on its board: the constraint is restored or dismissed.
-fn spend_on(board: &mut Board, ticket: Ticket, restoring: bool) -> Result<(), (Ticket, BoardFault)>
-    ensures reply { SpentOrBack result ticket (spend_fault (ledger_of board.old) ticket.mark ticket.number) }
-    ensures after { ledger_of board.new ≡ spend_after (if restoring then Restore else Dismiss) (ledger_of board.old) ticket.mark ticket.number }
-{
-    if restoring {
-        board.restore(ticket)
-    } else {
-        board.dismiss(ticket)
     }
 }
 
@@ -83,33 +48,39 @@ impl Session {
         ensures mark { IfOk result (λ m. m ≡ mark_of (session_ledger self.old)) }
         ensures after { session_ledger self.new ≡ suspend_after (session_ledger self.old) number }
     {
-        match numbers::suspend(&mut self.board, number) {
-            Ok(ticket) => {
-                let mark = ticket.mark();
-                self.tickets.put(usize::from(number), ticket);
-                Ok(mark)
-            }
-            Err(fault) => Err(fault),
-        }
+        let ticket = self.board.suspend(board_number(number))?;
+        let mark = ticket.mark();
+        self.tickets.put(ticket);
+        Ok(mark)
     }
 
-    // Restores or dismisses the constraint of a ticket, named by its mark and number. A ticket that the session does not hold is refused.
-    fn spend(&mut self, mark: u16, number: u16, restoring: bool) -> Result<(), BoardFault>
+    // Spends the ticket of a mark and a number by a step that restores or dismisses its constraint. A ticket that the session does not hold
+    // is refused.
+    fn spend<F: FnOnce(&mut Board, Ticket) -> Result<(), (Ticket, BoardFault)>>(
+        &mut self,
+        mark: u16,
+        number: u16,
+        step: F,
+    ) -> Result<(), BoardFault>
+        ghost event: { LedgerEvent }
+        requires ends { EndsSuspension event }
+        requires callable { F.IsAlwaysCallable step }
+        requires spends { Spends event (F.post step) }
         ensures reply { fault_of result ≡ spend_fault (session_ledger self.old) mark number }
-        ensures after { session_ledger self.new ≡ spend_after (if restoring then Restore else Dismiss) (session_ledger self.old) mark number }
+        ensures after { session_ledger self.new ≡ spend_after event (session_ledger self.old) mark number }
     {
-        match self.tickets.take(mark, usize::from(number)) {
-            None => Err(not_held(&self.board)),
-            Some(ticket) => match spend_on(&mut self.board, ticket, restoring) {
-                Ok(()) => Ok(()),
-                Err(_) => unreachable(),
-            },
+        let Some(ticket) = self.tickets.take(mark, usize::from(number)) else {
+            return Err(not_held(&self.board));
+        };
+        match step(&mut self.board, ticket) {
+            Ok(()) => Ok(()),
+            Err(_) => unreachable(),
         }
     }
 
-    // Performs one call and answers its reply.
-    pub fn call(&mut self, call: &Call) -> Reply
-        ensures reply { result ≡ reply_to (session_ledger self.old) call.now }
+    // Performs one call: what it answers, or why it is refused.
+    fn answer(&mut self, call: &Call) -> Result<Answer, CallFault>
+        ensures reply { result ≡ outcome_of (session_ledger self.old) call.now }
         ensures after { session_ledger self.new ≡ call_after (session_ledger self.old) call.now }
     {
         match call {
@@ -118,27 +89,50 @@ impl Session {
                 events,
                 period,
                 departures,
-            } => done(
-                self.board
-                    .open(*mark, *events, *period, departures.as_slice()),
-            ),
-            Call::Load { bytes } => loaded(self.board.load(bytes.as_slice())),
-            Call::Add(addition) => match self.board.add(*addition) {
-                Ok(number) => Reply::Number(u16::from(number)),
-                Err(fault) => Reply::Refused(CallFault::Board(fault)),
-            },
-            Call::Retime { number, time } => done(numbers::retime(&mut self.board, *number, *time)),
-            Call::Withdraw { number } => done(numbers::withdraw(&mut self.board, *number)),
-            Call::Suspend { number } => match self.suspend(*number) {
-                Ok(mark) => Reply::Ticket {
+            } => {
+                self.board.open(*mark, *events, *period, departures)?;
+                Ok(Answer::Done)
+            }
+            Call::Load { bytes } => {
+                self.board.load(bytes)?;
+                Ok(Answer::Done)
+            }
+            Call::Add(addition) => {
+                let number = self.board.add(*addition)?;
+                Ok(Answer::Number(u16::from(number)))
+            }
+            Call::Retime { number, time } => {
+                self.board.retime(board_number(*number), *time)?;
+                Ok(Answer::Done)
+            }
+            Call::Withdraw { number } => {
+                self.board.withdraw(board_number(*number))?;
+                Ok(Answer::Done)
+            }
+            Call::Suspend { number } => {
+                let mark = self.suspend(*number)?;
+                Ok(Answer::Ticket {
                     mark,
                     number: *number,
-                },
-                Err(fault) => Reply::Refused(CallFault::Board(fault)),
-            },
-            Call::Restore { mark, number } => done(self.spend(*mark, *number, true)),
-            Call::Dismiss { mark, number } => done(self.spend(*mark, *number, false)),
+                })
+            }
+            Call::Restore { mark, number } => {
+                self.spend(*mark, *number, Board::restore)?;
+                Ok(Answer::Done)
+            }
+            Call::Dismiss { mark, number } => {
+                self.spend(*mark, *number, Board::dismiss)?;
+                Ok(Answer::Done)
+            }
         }
+    }
+
+    // Performs one call and answers its reply.
+    pub fn call(&mut self, call: &Call) -> Reply
+        ensures reply { result ≡ reply_to (session_ledger self.old) call.now }
+        ensures after { session_ledger self.new ≡ call_after (session_ledger self.old) call.now }
+    {
+        Reply(self.answer(call))
     }
 
     // Performs the calls in their order and appends each reply to the list. It fails only for want of memory for the replies, and then it
@@ -161,21 +155,18 @@ impl Session {
     pub fn dismiss_lowest(&mut self) -> Option<(u16, u16)>
         ensures ticket { result ≡ lowest_ticket (session_ledger self.old) }
         ensures after { session_ledger self.new ≡ dismissed_lowest (session_ledger self.old) result }
+        ensures fewer { IfSome result (λ _. now_suspended (session_ledger self.new) < now_suspended (session_ledger self.old)) }
     {
-        match self.tickets.lowest() {
-            None => None,
-            Some((mark, number)) => {
-                let _ = self.spend(mark, number, false);
-                Some((mark, number))
-            }
-        }
+        let (mark, number) = self.tickets.lowest()?;
+        let _ = self.spend(mark, number, Board::dismiss);
+        Some((mark, number))
     }
 
     // Ends the session: dismisses every constraint that is still suspended, and hands the board out.
     pub fn close(mut self) -> Board
         ensures { ledger_of result ≡ closed (session_ledger self) }
     {
-        while let Some(_) = self.dismiss_lowest() {}
+        while self.dismiss_lowest().is_some() {}
         let Session { board, tickets } = self;
         tickets.destroy();
         board

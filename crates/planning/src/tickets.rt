@@ -1,6 +1,6 @@
 // Places for tickets.
-ghost use Rattle.std.specs.Prelude.{◌≡◌, ℕ, ◌<◌, length, replicate, IfOk, Some, None, vec_len, slice_index_or, slice_set};
-ghost use Rattle.planning.specs.Places.{places_of, ticket_of, without, first_held};
+ghost use Rattle.std.specs.Prelude.{◌≡◌, ◌<◌, IfOk, IfSome, IfNone, Some, None, slice_index_or, slice_set};
+ghost use Rattle.planning.specs.Places.{places_of, ticket_of, without, NoneHeld, FirstHeld};
 
 use crate::HeldTickets;
 use board::Ticket;
@@ -10,32 +10,25 @@ use std::alloc::{AllocError, Global};
 const PLACES: usize = 128;
 
 impl HeldTickets {
-    // Places that hold no ticket.
+    // Places that hold no ticket. They are pushed one by one, since the methods that fill a list ask for elements that can be let go, which a
+    // ticket can't.
     pub(crate) fn new(heap: Global) -> Result<HeldTickets, AllocError>
-        ensures { IfOk result (λ t. (places_of t ≡ replicate 128 None) × (vec_len t.places ≡ 128)) }
+        ensures { IfOk result (λ t. NoneHeld (places_of t)) }
     {
-        let mut places = Vec::new(heap);
-        match places.reserve(PLACES) {
-            Ok(()) => {}
-            Err(e) => {
-                places.destroy_empty();
-                return Err(e);
-            }
-        }
-        for _k in 0..PLACES {
+        let mut places = Vec::with_capacity(heap, PLACES)?;
+        for _ in 0..PLACES {
             places.push_reserved(None);
         }
         Ok(HeldTickets { places })
     }
 
     // Puts a ticket into the place of its number, which is there and empty.
-    pub(crate) fn put(&mut self, number: usize, ticket: Ticket)
-        requires inside { number < vec_len self.old.places }
-        requires empty { slice_index_or (places_of self.old) number None ≡ None }
-        ensures after { places_of self.new ≡ slice_set (places_of self.old) number (Some ticket) }
-        ensures count { vec_len self.new.places ≡ vec_len self.old.places }
+    pub(crate) fn put(&mut self, ticket: Ticket)
+        requires inside { ticket.number < 128 }
+        requires empty { slice_index_or (places_of self.old) ticket.number None ≡ None }
+        ensures { places_of self.new ≡ slice_set (places_of self.old) ticket.number (Some ticket) }
     {
-        let place = &mut self.places[number];
+        let place = &mut self.places[usize::from(ticket.number())];
         match place.replace(ticket) {
             None => {}
             Some(_) => unreachable(),
@@ -46,48 +39,27 @@ impl HeldTickets {
     pub(crate) fn take(&mut self, mark: u16, number: usize) -> Option<Ticket>
         ensures ticket { result ≡ ticket_of (places_of self.old) mark number }
         ensures after { places_of self.new ≡ without (places_of self.old) mark number }
-        ensures count { vec_len self.new.places ≡ vec_len self.old.places }
     {
-        match self.take_any(number) {
-            None => None,
-            Some(ticket) => {
-                if ticket.mark() == mark {
-                    return Some(ticket);
-                }
-                self.put(number, ticket);
-                None
-            }
-        }
-    }
-
-    // Takes the ticket of a number out of its place, where one is held.
-    pub(crate) fn take_any(&mut self, number: usize) -> Option<Ticket>
-        ensures ticket { result ≡ slice_index_or (places_of self.old) number None }
-        ensures after { places_of self.new ≡ slice_set (places_of self.old) number None }
-        ensures count { vec_len self.new.places ≡ vec_len self.old.places }
-    {
-        if number >= self.places.len() {
-            return None;
-        }
-        let place = &mut self.places[number];
-        place.take()
+        self.places
+            .get_mut(number)?
+            .take_if(|ticket| ticket.mark() == mark)
     }
 
     // Mark and number of the ticket that is held for the lowest number.
     pub(crate) fn lowest(&self) -> Option<(u16, u16)>
-        ensures { result ≡ first_held (places_of self.now) }
+        ensures none { IfNone result (NoneHeld (places_of self.now)) }
+        ensures first { IfSome result (FirstHeld (places_of self.now)) }
     {
-        for place in self.places.as_slice() {
-            if let Some(ticket) = place {
-                return Some((ticket.mark(), u16::from(ticket.number())));
-            }
-        }
-        None
+        self.places.iter().find_map(|place| {
+            place
+                .as_ref()
+                .map(|ticket| (ticket.mark(), u16::from(ticket.number())))
+        })
     }
 
-    // Ends places that hold no ticket.
+    // Ends places that hold no ticket. They are popped one by one, since a `for` over a list asks for elements that can be let go.
     pub(crate) fn destroy(self)
-        requires { (k : ℕ) → slice_index_or (places_of self) k None ≡ None }
+        requires { NoneHeld (places_of self) }
     {
         let HeldTickets { mut places } = self;
         while let Some(place) = places.pop() {

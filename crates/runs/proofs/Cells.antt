@@ -1,9 +1,8 @@
 -- A cell by rounds: the runs of fewer than k + 1 links are the empty one and, behind each first link, those of fewer than k,
--- and chaining distributes over the choice. So a round makes the cells of k + 1 of those of k; a round that changes nothing is
--- the last that could; and a cell of k spans at most k - 1.
-use Rattle.std.proofs.Common.{◌≡◌, ℕ, zero, suc, ◌+◌, ◌-◌, ◌<◌, ◌≤◌, Bool, true, false, cond, eqb, List, [], ◌∷◌, ◌++◌, map, sym, refl, ap, ◌∙◌, inl, inr, add-one, arith}
+-- and chaining distributes over the choice. And a cell of k spans at most k - 1.
+use Rattle.std.proofs.Common.{◌≡◌, ℕ, zero, suc, ◌+◌, ◌-◌, ◌≤◌, Bool, true, false, cond, eqb, List, [], ◌∷◌, ◌++◌, map, sym, refl, ap, ◌∙◌, inl, inr, arith}
 use Rattle.weights.specs.Kinds.{Kind, Laws}
-use Rattle.runs.specs.Nets.{Net, In, Within}
+use Rattle.runs.specs.Nets.{Net, In}
 use Rattle.runs.specs.Runs.{standing, longer, runs_below, closed_runs, weigh, choice_over, cell}
 use Rattle.runs.specs.Rounds.{seed, extend}
 use Rattle.runs.proofs.Order.{none_choice}
@@ -32,10 +31,6 @@ module _ (K : Kind) (L : Laws K) (net : Net) (w : ℕ → K.carrier) where
   over_standing true = L.choice_none K.start
   over_standing false = refl
 
-  -- one round from the column x
-  abbrev pub rounded : (ℕ → K.carrier) → ℕ → ℕ → K.carrier
-  rounded x j i = K.choice (seed K i j) (extend K net w x i net.links)
-
   -- the column j of the cells of runs of fewer than k links
   abbrev pub cells_of : ℕ → ℕ → ℕ → K.carrier
   cells_of k j e = cell K net w k e j
@@ -44,7 +39,7 @@ module _ (K : Kind) (L : Laws K) (net : Net) (w : ℕ → K.carrier) where
   unfolding cell
   cell_zero i j = refl
 
-  cell_suc : (k i j : ℕ) → cell K net w (suc k) i j ≡ rounded (cells_of k j) j i
+  pub cell_suc : (k i j : ℕ) → cell K net w (suc k) i j ≡ K.choice (seed K i j) (extend K net w (cells_of k j) i net.links)
   unfolding cell
   cell_suc k i j =
       over_append (standing i j) (longer net (λ e. runs_below net k e j) i net.links)
@@ -75,7 +70,7 @@ module _ (K : Kind) (L : Laws K) (net : Net) (w : ℕ → K.carrier) where
   nothing_behind l true = L.none_right (w l)
   nothing_behind l false = refl
 
-  extend_none : (x : ℕ → K.carrier) (i : ℕ) → ((e : ℕ) → x e ≡ K.none) → (ls : List ℕ) → extend K net w x i ls ≡ K.none
+  pub extend_none : (x : ℕ → K.carrier) (i : ℕ) → ((e : ℕ) → x e ≡ K.none) → (ls : List ℕ) → extend K net w x i ls ≡ K.none
   extend_none x i none [] = refl
   extend_none x i none (l ∷ ls) =
       ap (λ y. K.choice (cond (eqb (net.from l) i) (K.chaining (w l) y) K.none) (extend K net w x i ls)) (none (net.to l))
@@ -97,42 +92,8 @@ module _ (K : Kind) (L : Laws K) (net : Net) (w : ℕ → K.carrier) where
       rw (cell_suc (suc k) i j) (omega (arith, L.span_choice (seed K i j) (extend K net w x i net.links), seed_span (eqb i j), extend_span light x i k hx net.links))
 
   -- only what stands at the links' ends counts
-  extend_same : (x y : ℕ → K.carrier) (i : ℕ) (ls : List ℕ) → ((l : ℕ) → In l ls → x (net.to l) ≡ y (net.to l)) → extend K net w x i ls ≡ extend K net w y i ls
+  pub extend_same : (x y : ℕ → K.carrier) (i : ℕ) (ls : List ℕ) → ((l : ℕ) → In l ls → x (net.to l) ≡ y (net.to l)) → extend K net w x i ls ≡ extend K net w y i ls
   extend_same x y i [] same = refl
   extend_same x y i (l ∷ ls) same =
       ap (λ v. K.choice (cond (eqb (net.from l) i) (K.chaining (w l) v) K.none) (extend K net w x i ls)) (same l (inl refl))
       ∙ ap (K.choice (cond (eqb (net.from l) i) (K.chaining (w l) (y (net.to l))) K.none)) (extend_same x y i ls (λ k h. same k (inr h)))
-
-  module _ (n : ℕ) (b : Within n net) where
-    -- x is, below n, the column j of the cells of k
-    abbrev pub IsColumn : ℕ → ℕ → (ℕ → K.carrier) → Type 0
-    IsColumn k j x = (e : ℕ) → e < n → x e ≡ cell K net w k e j
-
-    pub round_cell : (k j : ℕ) (x : ℕ → K.carrier) → IsColumn k j x → (i : ℕ) → rounded x j i ≡ cell K net w (k + 1) i j
-    round_cell k j x is i =
-        rw (add-one k) (ap (K.choice (seed K i j)) (extend_same x (cells_of k j) i net.links (λ l h. is (net.to l) (b l h).1)) ∙ sym (cell_suc k i j))
-
-    pub round_closed : (k j : ℕ) (x : ℕ → K.carrier) → IsColumn k j x → extend K net w x j net.links ≡ choice_over K w (closed_runs net k j)
-    round_closed k j x is = extend_same x (cells_of k j) j net.links (λ l h. is (net.to l) (b l h).1) ∙ sym (closed_is k j)
-
-    -- the column that a round makes: first what the empty runs give, then each link
-    pub next_column : (k j : ℕ) (x seeded extended : ℕ → K.carrier) → IsColumn k j x → ((i : ℕ) → i < n → seeded i ≡ seed K i j)
-        → ((i : ℕ) → i < n → extended i ≡ K.choice (seeded i) (extend K net w x i net.links)) → IsColumn (k + 1) j extended
-    next_column k j x seeded extended is first then i h = then i h ∙ ap (λ y. K.choice y (extend K net w x i net.links)) (first i h) ∙ round_cell k j x is i
-
-    -- a round that changes nothing leaves nothing to change
-    settled : (k j : ℕ) → ((e : ℕ) → e < n → cell K net w (k + 1) e j ≡ cell K net w k e j) → (d e : ℕ) → e < n → cell K net w (d + k) e j ≡ cell K net w k e j
-    settled k j same zero e h = ap (λ z. cell K net w z e j) (omega arith)
-    settled k j same (suc d) e h =
-        let up : suc d + k ≡ d + k + 1 = omega arith in
-        ap (λ z. cell K net w z e j) up
-        ∙ sym (round_cell (d + k) j (cells_of (d + k) j) (λ i hi. refl) e)
-        ∙ ap (K.choice (seed K e j)) (extend_same (cells_of (d + k) j) (cells_of k j) e net.links (λ l m. settled k j same d (net.to l) (b l m).1))
-        ∙ round_cell k j (cells_of k j) (λ i hi. refl) e
-        ∙ same e h
-
-    pub settled_column : (k m j : ℕ) (x y : ℕ → K.carrier) → k ≤ m → IsColumn k j x → IsColumn (k + 1) j y → ((e : ℕ) → e < n → y e ≡ x e) → IsColumn m j x
-    settled_column k m j x y le is is' same e h =
-        let d : ℕ = m - k in
-        let up : d + k ≡ m = omega arith in
-        is e h ∙ sym (settled k j (λ i hi. sym (is' i hi) ∙ same i hi ∙ is i hi) d e h) ∙ ap (λ z. cell K net w z e j) up

@@ -1,33 +1,16 @@
--- Reads and writes of weights by their places, and of a column of the cells: cell (i, j) stands at i × n + j.
-use Rattle.std.proofs.Common.{◌≡◌, ℕ, zero, suc, ◌+◌, ◌*◌, ◌/◌, ◌%◌, ◌<◌, ◌≤◌, List, [], ◌∷◌, map, length, get_or, set, sym, ap, ◌∙◌, subst, arith, below_more}
+-- Reads and writes of weights by their places, and of a row of the cells: cell (i, j) stands at i × n + j.
+use Rattle.std.proofs.Common.{◌≡◌, ℕ, zero, suc, ◌+◌, ◌*◌, ◌<◌, ◌≤◌, List, [], ◌∷◌, ◌++◌, map, length, get_or, set, take, Decides, sym, ap, ◌∙◌, refl, subst, arith, below_more}
 use native.Mathlib.Decide.{dec_lt, ℕ_discrete}
-use Rattle.std.specs.List.{AllByRecursion}
-use Rattle.std.proofs.lemmas.Nat.{mul-add-lt, div-mul-add, mod-mul-add}
-use Rattle.std.proofs.ByRecursion.{All-get_or}
-use Rattle.std.proofs.lemmas.List.{map-set, length-map, get_or-set_same, get_or-set_other, get_or-map, get_or_past}
+use borrow.Rule.Slice.PartMut.{put_mid, post_of}
+use Rattle.std.specs.List.{AllByRecursion, list_all, zip, take-map}
+use Rattle.std.proofs.lemmas.Nat.{mul-add-lt}
+use Rattle.std.proofs.lemmas.Bool.Decides.{Decides-and}
+use Rattle.std.proofs.lemmas.List.{map-append, map-set, length-map, length-take-le, get_or-set_same, get_or-set_other, get_or-map, get_or_past, get_or_append_left, get_or-append-add, get_or-take}
 use Rattle.weights.specs.Kinds.{Kind, Laws}
-use Rattle.runs.specs.declared.Link.{Link}
-use Rattle.runs.specs.Links.{no_link, at}
-use Rattle.runs.specs.Rounds.{column_of, OthersKept}
+use Rattle.runs.specs.Links.{at}
 
 pub cell_inside : (n i j : ℕ) → i < n → j < n → i * n + j < n * n
 cell_inside n i j p q = mul-add-lt i n j n p q
-
-row_same : (n r q i j : ℕ) → q < n → j < n → r * n + q ≡ i * n + j → r ≡ i
-row_same n r q i j p h e = sym (div-mul-add r n q p) ∙ ap (λ y. y / n) e ∙ div-mul-add i n j h
-
-column_same : (n r q i j : ℕ) → q < n → j < n → r * n + q ≡ i * n + j → q ≡ j
-column_same n r q i j p h e = sym (mod-mul-add r n q p) ∙ ap (λ y. y % n) e ∙ mod-mul-add i n j h
-
--- where the k-th link begins and ends
-pub link_place : (n j k len : ℕ) (ls : List Link) → j < n → len ≡ n * n → k < length ls → AllByRecursion (λ l. (l.from < n) × (l.to < n)) ls → (get_or ls k no_link).from * n + j < len
-link_place n j k len ls hj square h within = subst (λ y. (get_or ls k no_link).from * n + j < y) (sym square) (cell_inside n (get_or ls k no_link).from j (All-get_or (λ l. (l.from < n) × (l.to < n)) ls k no_link h within).0 hj)
-
-pub link_end : (n k len : ℕ) (ls : List Link) → len ≡ n → k < length ls → AllByRecursion (λ l. (l.from < n) × (l.to < n)) ls → (get_or ls k no_link).to < len
-link_end n k len ls side h within = subst (λ y. (get_or ls k no_link).to < y) (sym side) (All-get_or (λ l. (l.from < n) × (l.to < n)) ls k no_link h within).1
-
-pub all_read : {X : Type 0} (P : X → Type 0) (xs : List X) (k : ℕ) (y : X) → k < length xs → y ≡ get_or xs k y → AllByRecursion P xs → P y
-all_read P xs k y h e a = subst P (sym e) (All-get_or P xs k y h a)
 
 module _ (K : Kind) {X : Type 0} (m : X → K.carrier) where
   -- what is read at a place
@@ -52,6 +35,20 @@ module _ (K : Kind) {X : Type 0} (m : X → K.carrier) where
   at_past : (xs : List X) (t : ℕ) → length xs ≤ t → at K m xs t ≡ K.none
   at_past xs t h = let hm : length (map m xs) ≤ t = rw length-map h in get_or_past (map m xs) t K.none hm
 
+  -- whether two rows are the same is asked pair by pair
+  pub same_rows : Laws K → (xs ys : List X) → length xs ≡ length ys → Decides (list_all (λ p. K.equal (m p.0) (m p.1)) (zip xs ys)) ((t : ℕ) → t < length xs → at K m xs t ≡ at K m ys t)
+  same_rows L [] ys len = (λ _ t h. absurd (omega arith), λ _. refl)
+  same_rows L (x ∷ xs) [] len = absurd (omega arith)
+  same_rows L (x ∷ xs) (y ∷ ys) len =
+      let both = Decides-and (K.equal (m x) (m y)) (list_all (λ p. K.equal (m p.0) (m p.1)) (zip xs ys)) (L.equal_says (m x) (m y)) (same_rows L xs ys (omega arith)) in (
+        λ e. each (both.0 e),
+        λ same. both.1 (same 0 (omega arith), λ t h. same (suc t) (omega arith)),
+      )
+    where
+      each : (m x ≡ m y) × ((t : ℕ) → t < length xs → at K m xs t ≡ at K m ys t) → (t : ℕ) → t < length (x ∷ xs) → at K m (x ∷ xs) t ≡ at K m (y ∷ ys) t
+      each same zero h = same.0
+      each same (suc t) h = same.1 t (omega arith)
+
   pub cleared_all : (xs : List X) → ((t : ℕ) → t < length xs → at K m xs t ≡ K.none) → (t : ℕ) → at K m xs t ≡ K.none
   cleared_all xs h t = elim (dec_lt t (length xs)) [ yes p ↦ h t p | no p ↦ at_past xs t (omega arith) ]
 
@@ -65,31 +62,29 @@ module _ (K : Kind) {X : Type 0} (m : X → K.carrier) where
   light_at L (x ∷ xs) h zero = h.0
   light_at L (x ∷ xs) h (suc t) = light_at L xs h.1 t
 
-  module _ (n j : ℕ) (hj : j < n) where
-    -- the column j after a write into it
-    pub column_set_same : (xs : List X) (i : ℕ) (w : X) → i < n → length xs ≡ n * n → column_of K m n j (set xs (i * n + j) w) i ≡ m w
-    column_set_same xs i w hi len = at_set_same xs (i * n + j) w (subst (λ y. i * n + j < y) (sym len) (cell_inside n i j hi hj))
+  at_left : (xs ys : List X) (t : ℕ) → t < length xs → at K m (xs ++ ys) t ≡ at K m xs t
+  at_left xs ys t h =
+      let hm : t < length (map m xs) = rw length-map h in
+      ap (λ l. get_or l t K.none) (map-append m xs ys) ∙ get_or_append_left (map m xs) (map m ys) K.none t hm
 
-    pub column_set_other : (xs : List X) (i t : ℕ) (w : X) → (t ≡ i → ⊥) → column_of K m n j (set xs (i * n + j) w) t ≡ column_of K m n j xs t
-    column_set_other xs i t w ne = at_set_other xs (i * n + j) (t * n + j) w (λ same. ne (row_same n t j i j hj hj same))
+  at_right : (xs ys : List X) (t : ℕ) → at K m (xs ++ ys) (length xs + t) ≡ at K m ys t
+  at_right xs ys t =
+      ap (λ l. get_or l (length xs + t) K.none) (map-append m xs ys)
+      ∙ ap (λ n. get_or (map m xs ++ map m ys) (n + t) K.none) (sym (length-map xs m))
+      ∙ get_or-append-add (map m xs) (map m ys) t K.none
 
-    -- one more row of the column is written by a function of the row
-    pub column_more : (xs : List X) (i : ℕ) (w : X) (new : ℕ → K.carrier) → i < n → length xs ≡ n * n → m w ≡ new i
-        → ((t : ℕ) → t < i → column_of K m n j xs t ≡ new t) → (t : ℕ) → t < i + 1 → column_of K m n j (set xs (i * n + j) w) t ≡ new t
-    column_more xs i w new hi len e before =
-        below_more (λ t. column_of K m n j (set xs (i * n + j) w) t ≡ new t) i
-        (λ t h. column_set_other xs i t w (λ same. omega arith) ∙ before t h)
-        (column_set_same xs i w hi len ∙ e)
+  at_take : (a : ℕ) (xs : List X) (t : ℕ) → t < a → at K m (take a xs) t ≡ at K m xs t
+  at_take a xs t h = ap (λ l. get_or l t K.none) (sym (take-map m a xs)) ∙ get_or-take a (map m xs) t K.none h
 
-    -- the other columns keep what they have
-    pub others_more : (old xs : List X) (i : ℕ) (w : X) → OthersKept K m n j old xs → OthersKept K m n j old (set xs (i * n + j) w)
-    others_more old xs i w kept r q hr hq ne =
-        at_set_other xs (i * n + j) (r * n + q) w (λ same. ne (column_same n r q i j hq hj same)) ∙ kept r q hr hq ne
-
-    -- one more column is written, and the ones before it are kept
-    pub columns_more : (old new : List X) (f : ℕ → ℕ → K.carrier) → ((i : ℕ) → i < n → column_of K m n j new i ≡ f i j) → OthersKept K m n j old new
-        → ((r q : ℕ) → r < n → q < j → column_of K m n q old r ≡ f r q) → (r q : ℕ) → r < n → q < j + 1 → column_of K m n q new r ≡ f r q
-    columns_more old new f here kept before r q hr hq = elim (ℕ_discrete q j) [
-      | yes e ↦ subst (λ y. column_of K m n y new r ≡ f r y) (sym e) (here r hr)
-      | no ne ↦ kept r q hr (omega arith) ne ∙ before r q hr (omega arith)
-    ]
+  -- one more row is written, and the ones before it are kept
+  pub rows_more : (n i k : ℕ) (cells row : List X) (f : ℕ → ℕ → K.carrier) → i < n → length cells ≡ n * n → length row ≡ n → ((q : ℕ) → q < n → at K m row q ≡ f i q)
+      → ((r q : ℕ) → r < i → q < n → at K m cells (r * n + q) ≡ f r q) → (r q : ℕ) → r < i + 1 → q < n → at K m (put_mid (i * n) k cells row) (r * n + q) ≡ f r q
+  rows_more n i k cells row f hi square side here before r q hr hq =
+      let front = take (i * n) cells in
+      let back = row ++ post_of (i * n) k cells in
+      let len : length front ≡ i * n = length-take-le (i * n) cells (omega (arith, cell_inside n i q hi hq)) in
+      elim (ℕ_discrete r i) [
+        | yes e ↦ subst (λ z. at K m (front ++ back) (z * n + q) ≡ f z q) (sym e)
+            (ap (λ z. at K m (front ++ back) (z + q)) (sym len) ∙ at_right front back q ∙ at_left row (post_of (i * n) k cells) q (omega arith) ∙ here q hq)
+        | no ne ↦ let lower : r * n + q < i * n = omega (arith, mul-add-lt r n q i (omega arith) hq) in at_left front back (r * n + q) (omega arith) ∙ at_take (i * n) cells (r * n + q) lower ∙ before r q (omega arith) hq
+      ]

@@ -4,6 +4,9 @@ pub mod Order
 pub mod Enumeration
 pub mod Cutting
 pub mod Cells
+pub mod Ends
+pub mod Rows
+pub mod Turns
 pub mod Theorem
 pub mod Columns
 pub mod Extending

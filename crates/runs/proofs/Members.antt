@@ -1,7 +1,6 @@
 -- Which elements a list has, and what holds of each.
-use Rattle.std.proofs.Common.{◌≡◌, ℕ, zero, suc, ◌+◌, ◌<◌, ◌≤◌, Bool, true, false, cond, List, [], ◌∷◌, ◌++◌, map, Decides, filter, sym, refl, ap, ◌∙◌, subst, inl, inr, ⊎_elim, arith}
+use Rattle.std.proofs.Common.{◌≡◌, ℕ, zero, suc, ◌+◌, ◌<◌, ◌≤◌, Bool, true, false, cond, List, [], ◌∷◌, ◌++◌, map, filter, sym, refl, ap, ◌∙◌, subst, inl, inr, ⊎_elim, arith}
 use native.Mathlib.Decide.{ℕ_discrete}
-use borrow.Author.Tests.{clash}
 use Rattle.std.specs.List.{range_with_len, AllByRecursion}
 use Rattle.runs.specs.Nets.{In}
 
@@ -46,13 +45,6 @@ pub in_counting : (x a n : ℕ) → In x (range_with_len a n) → x < a + n
 in_counting x a zero h = absurd h
 in_counting x a (suc n) (inl e) = omega arith
 in_counting x a (suc n) (inr h) = let lt : x < a + 1 + n = in_counting x (a + 1) n h in omega arith
-
--- a test that says no of what does not hold, and yes of what does
-pub decides_no : {P : Type 0} → (P → ⊥) → Decides false P
-decides_no n = (λ e. absurd (clash e), λ p. absurd (n p))
-
-pub decides_yes : {P : Type 0} → P → Decides true P
-decides_yes p = (λ _. p, λ _. refl)
 
 pub counting_in : (x a n : ℕ) → a ≤ x → x < a + n → In x (range_with_len a n)
 counting_in x a zero low high = absurd (omega arith)

@@ -1,13 +1,15 @@
 -- Tests over lists and below a number, step by step: for loops that stop at the first element that fails, and for the search
 -- for the lowest number that passes.
-use Rattle.std.proofs.Common.{◌≡◌, ℕ, zero, suc, ◌+◌, ◌-◌, ◌<◌, ◌≤◌, Bool, true, false, cond, ◌&&◌, leb, List, length, get_or, drop, Some, None, Decides, Option, sym, refl, ap, ◌∙◌, ⊎_elim, add-one, arith}
+use Rattle.std.proofs.Common.{◌≡◌, ℕ, zero, suc, ◌+◌, ◌-◌, ◌<◌, ◌≤◌, Bool, true, false, cond, ◌&&◌, ltb, leb, List, [], ◌∷◌, length, get_or, drop, Some, None, Decides, Option, sym, refl, ap, ◌∙◌, ⊎_elim, add-one, arith}
 use borrow.Author.Tests.{clash}
-use Rattle.std.specs.List.{AllByRecursion}
+use Rattle.std.specs.List.{AllByRecursion, list_all}
 use Rattle.std.proofs.lemmas.List.{drop_more, drop_all}
-use Rattle.std.proofs.lemmas.Bool.Decides.{leb_tells}
+use Rattle.std.proofs.lemmas.Bool.Decides.{leb_tells, Decides-and, Decides-ltb}
 use Rattle.std.proofs.ByRecursion.{Decides-by_and}
+use Rattle.weights.specs.Kinds.{Kind}
+use Rattle.runs.specs.declared.Link.{Link}
 use Rattle.runs.specs.Gaining.{found_or, lowest}
-use Rattle.runs.specs.Tables.{every}
+use Rattle.runs.specs.Tables.{every, events_below}
 
 pub and_both : (a b : Bool) → a ≡ true → b ≡ true → (a && b) ≡ true
 and_both true b p q = q
@@ -20,9 +22,6 @@ and_first false b e = e
 pub and_second : (a b : Bool) → (a && b) ≡ true → b ≡ true
 and_second true b e = e
 and_second false b e = absurd (clash e)
-
-pub some_not_none : {X : Type 0} {x : X} → Some x ≡ None → ⊥
-some_not_none e = let z : ◌≡◌ {A = ℕ} 0 1 = cc in omega arith
 
 pub decides_leb : (a b : ℕ) → Decides (leb a b) (a ≤ b)
 decides_leb a b = ⊎_elim (λ t. (λ _. t.1, λ _. t.0)) (λ f. (λ e. absurd (clash (sym f.0 ∙ e)), λ h. absurd (let lt = f.1 in omega arith))) (leb_tells a b)
@@ -42,8 +41,19 @@ module _ {X : Type 0} (passes : X → Bool) (xs : List X) where
   pub every_end : (i : ℕ) → length xs ≤ i → every passes (drop i xs) ≡ every passes xs → true ≡ every passes xs
   every_end i h rest = sym (ap (every passes) (drop_all i xs h)) ∙ rest
 
+-- the library's own test of each element
+pub every_is : {X : Type 0} (passes : X → Bool) (xs : List X) → list_all passes xs ≡ every passes xs
+every_is passes [] = refl
+every_is passes (x ∷ xs) = ap (λ t. passes x && t) (every_is passes xs)
+
 pub every_says : {X : Type 0} (passes : X → Bool) (P : X → Type 0) → ((x : X) → Decides (passes x) (P x)) → (xs : List X) → Decides (every passes xs) (AllByRecursion P xs)
 every_says passes P says xs = Decides-by_and passes P (every passes) says refl (λ _ _. refl) xs
+
+pub links_are_below : (n : ℕ) (ls : List Link) → events_below n ls ≡ true → AllByRecursion (λ l. (l.from < n) × (l.to < n)) ls
+links_are_below n ls = (every_says (λ l. ltb l.from n && ltb l.to n) (λ l. (l.from < n) × (l.to < n)) (λ l. Decides-and (ltb l.from n) (ltb l.to n) (Decides-ltb l.from n) (Decides-ltb l.to n)) ls).0
+
+pub all_span : (K : Kind) {X : Type 0} (m : X → K.carrier) (most : ℕ) (xs : List X) → Decides (every (λ x. leb (K.span (m x)) most) xs) (AllByRecursion (λ x. K.span (m x) ≤ most) xs)
+all_span K m most = every_says (λ x. leb (K.span (m x)) most) (λ x. K.span (m x) ≤ most) (λ x. decides_leb (K.span (m x)) most)
 
 module _ (passes : ℕ → Bool) where
   pub lowest_passed : (j : ℕ) → lowest passes j ≡ None → passes j ≡ false → lowest passes (j + 1) ≡ None

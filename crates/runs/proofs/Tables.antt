@@ -1,7 +1,6 @@
 -- What the call answers, from what its loops leave; and what the answer says in the subject's words.
-use Rattle.std.proofs.Common.{◌≡◌, ℕ, ◌<◌, ◌≤◌, Bool, true, false, ◌&&◌, ltb, leb, List, length, Some, None, Ok, Err, Option, Result, sym, refl, ap, ◌∙◌, subst, arith}
+use Rattle.std.proofs.Common.{length, ◌≡◌, ℕ, ◌≤◌, Bool, true, false, List, Some, None, Ok, Err, Option, Result, sym, refl, ap, ◌∙◌, subst, arith}
 use borrow.Author.Tests.{clash}
-use Rattle.std.proofs.lemmas.Bool.Decides.{Decides-and, Decides-ltb}
 use Rattle.faults.specs.Causes.{unless, reply_of}
 use Rattle.faults.proofs.Refusals.{unless_none}
 use Rattle.weights.specs.Kinds.{Kind, Laws, Idempotent}
@@ -16,7 +15,7 @@ use Rattle.runs.specs.Faults.{table_report}
 use Rattle.runs.specs.Rounds.{Fit}
 use Rattle.runs.specs.Tables.{in_range, events_below, right_lengths, spans_at_most_one, gain_fault, early_fault, table_fault, CellsAfter, Tabled, Cause, LowestCause, TableLaw}
 use Rattle.runs.proofs.Extending.{net_within}
-use Rattle.runs.proofs.Searches.{decides_leb, every_says, lowest_passes, none_passes}
+use Rattle.runs.proofs.Searches.{links_are_below, all_span, lowest_passes, none_passes}
 use Rattle.runs.proofs.Theorem.{gaining_circuit, no_gaining_circuit, none_gains_closed, least_above}
 
 reply_none : (o : Option TableFault) → reply_of o ≡ Ok tt → o ≡ None
@@ -32,7 +31,7 @@ gain_event None j e = absurd (let z : ◌≡◌ {A = ℕ} 0 1 = cc in omega arit
 gain_event (Some i) j e = let same : i ≡ j = cc in ap Some same
 
 pub links_within : (n : ℕ) (ls : List Link) → events_below n ls ≡ true → Within n (net_of ls)
-links_within n ls e = net_within n ls ((every_says (λ l. ltb l.from n && ltb l.to n) (λ l. (l.from < n) × (l.to < n)) (λ l. Decides-and (ltb l.from n) (ltb l.to n) (Decides-ltb l.from n) (Decides-ltb l.to n)) ls).0 e)
+links_within n ls e = net_within n ls (links_are_below n ls e)
 
 module _ (K : Kind) {X : Type 0} (m : X → K.carrier) (n : ℕ) (ls : List Link) (ws : List X) where
   abbrev net : Net
@@ -42,11 +41,7 @@ module _ (K : Kind) {X : Type 0} (m : X → K.carrier) (n : ℕ) (ls : List Link
   w = at K m ws
 
   pub fit_from : events_below n ls ≡ true → length ls ≡ length ws → spans_at_most_one K m ws ≡ true → Fit K m n ls ws
-  fit_from below paired light = record {
-    paired = paired;
-    within = (every_says (λ l. ltb l.from n && ltb l.to n) (λ l. (l.from < n) × (l.to < n)) (λ l. Decides-and (ltb l.from n) (ltb l.to n) (Decides-ltb l.from n) (Decides-ltb l.to n)) ls).0 below;
-    light = (every_says (λ x. leb (K.span (m x)) 1) (λ x. K.span (m x) ≤ 1) (λ x. decides_leb (K.span (m x)) 1) ws).0 light;
-  }
+  fit_from below paired light = record { paired = paired; within = links_are_below n ls below; light = (all_span K m 1 ws).0 light }
 
   module _ (cells spare cells' spare' : List X) where
     module _ (L : Laws K) (I : Idempotent K) where

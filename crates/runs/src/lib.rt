@@ -2,16 +2,16 @@
 #![tactic(auto)]
 
 ghost use Rattle.std.specs.Prelude.{◌≡◌};
-ghost use Rattle.runs.specs.Faults.{table_report};
 
 use faults::{Layer, Report};
 
+mod net;
 mod table;
 
 pub use table::table_of_runs;
 
 // A link from one event to another.
-#[derive(Clone, Copy, PartialEq, Eq, Debug)]
+#[derive(Clone, Copy, Default, PartialEq, Eq, Debug)]
 pub struct Link {
     pub from: u8,
     pub to: u8,
@@ -27,12 +27,14 @@ pub enum TableFault {
     Gain(usize),
 }
 
-impl TableFault {
-    // The fault's layer, number and place.
-    pub fn report(self) -> Report
-        ensures { result ≡ table_report self }
-    {
-        let (number, place) = match self {
+// The fault's layer, number and place.
+impl From<TableFault> for Report {
+    ghost use Rattle.runs.specs.Faults.{table_report};
+
+    ghost from_gives = { λ fault report. report ≡ table_report fault };
+
+    fn from(fault: TableFault) -> Report {
+        let (number, place) = match fault {
             TableFault::EventCount => (3, 0),
             TableFault::Event => (6, 0),
             TableFault::Length => (18, 0),

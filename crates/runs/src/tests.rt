@@ -1,28 +1,26 @@
 // Worked cases of the table of runs.
 use crate::{Link, TableFault, table_of_runs};
+use faults::Report;
 use std::test::Fail;
 use weights::days::Days;
 use weights::seconds::Seconds;
 
 // What the lists hold before a call.
-const OLD: Seconds = Seconds::Of(77);
+const OLD: Seconds = Seconds(Some(77));
 
 fn link(from: u8, to: u8) -> Link {
     Link { from, to }
 }
 
 fn days(mask: u8) -> Result<Days, Fail> {
-    match Days::of_mask(mask) {
-        Some(days) => Ok(days),
-        None => Err(Fail::new("no mask of weekdays")),
-    }
+    Days::try_from(mask).map_err(|_| Fail::new("no mask of weekdays"))
 }
 
 // A loop at event 1 that gains 5, and links between events 0 and 1 that gain nothing.
 fn gaining_links() -> ([Link; 3], [Seconds; 3]) {
     (
         [link(0, 1), link(1, 0), link(1, 1)],
-        [Seconds::Of(0), Seconds::Of(0), Seconds::Of(5)],
+        [Seconds(Some(0)), Seconds(Some(0)), Seconds(Some(5))],
     )
 }
 
@@ -35,8 +33,8 @@ fn two_links_are_too_few_to_gain_from_event_0(rt: HostRuntime) {
         table_of_runs(2, &links, &weights, &mut cells, &mut spare),
         Err(TableFault::Gain(1))
     );
-    assert_eq!(rt; cells, [Seconds::Absent; 4]);
-    assert_eq!(rt; spare, [Seconds::Absent; 2]);
+    assert_eq!(rt; cells, [Seconds(None); 4]);
+    assert_eq!(rt; spare, [Seconds(None); 2]);
 }
 
 #[test]
@@ -48,8 +46,8 @@ fn three_links_gain_from_event_0(rt: HostRuntime) {
         table_of_runs(3, &links, &weights, &mut cells, &mut spare),
         Err(TableFault::Gain(0))
     );
-    assert_eq!(rt; cells, [Seconds::Absent; 9]);
-    assert_eq!(rt; spare, [Seconds::Absent; 3]);
+    assert_eq!(rt; cells, [Seconds(None); 9]);
+    assert_eq!(rt; spare, [Seconds(None); 3]);
 }
 
 #[test]
@@ -82,7 +80,7 @@ fn an_event_not_below_n_is_refused_before_a_wrong_length(rt: HostRuntime) {
 
 #[test]
 fn a_list_of_wrong_length_is_refused_before_a_wide_span(rt: HostRuntime) {
-    let wide = Seconds::Of(2_000_000_000);
+    let wide = Seconds(Some(2_000_000_000));
     let mut cells = [OLD; 4];
     let mut spare = [OLD; 1];
     assert_eq!(rt;
@@ -97,7 +95,7 @@ fn a_list_of_wrong_length_is_refused_before_a_wide_span(rt: HostRuntime) {
 fn at_most_128_links_are_taken(rt: HostRuntime) {
     let mut cells = [OLD; 1];
     let mut spare = [OLD; 1];
-    let start = Seconds::Of(0);
+    let start = Seconds(Some(0));
     assert_eq!(rt;
         table_of_runs(1, &[link(0, 0); 129], &[start; 129], &mut cells, &mut spare),
         Err(TableFault::Length)
@@ -108,15 +106,15 @@ fn at_most_128_links_are_taken(rt: HostRuntime) {
         Ok(())
     );
     assert_eq!(rt; cells, [start; 1]);
-    assert_eq!(rt; spare, [Seconds::Absent; 1]);
+    assert_eq!(rt; spare, [Seconds(None); 1]);
 }
 
 #[test]
 fn a_weight_of_span_2_is_refused_before_a_gain(rt: HostRuntime) {
     let mut cells = [OLD; 1];
     let mut spare = [OLD; 1];
-    let widest = Seconds::Of(1_073_741_824);
-    let wider = Seconds::Of(1_073_741_825);
+    let widest = Seconds(Some(1_073_741_824));
+    let wider = Seconds(Some(1_073_741_825));
     assert_eq!(rt;
         table_of_runs(1, &[link(0, 0)], &[wider], &mut cells, &mut spare),
         Err(TableFault::Span)
@@ -127,7 +125,7 @@ fn a_weight_of_span_2_is_refused_before_a_gain(rt: HostRuntime) {
         table_of_runs(1, &[link(0, 0)], &[widest], &mut cells, &mut spare),
         Err(TableFault::Gain(0))
     );
-    assert_eq!(rt; cells, [Seconds::Absent; 1]);
+    assert_eq!(rt; cells, [Seconds(None); 1]);
 }
 
 #[test]
@@ -135,8 +133,8 @@ fn one_event_without_links_has_its_empty_run(rt: HostRuntime) {
     let mut cells = [OLD; 1];
     let mut spare = [OLD; 1];
     assert_eq!(rt; table_of_runs(1, &[], &[], &mut cells, &mut spare), Ok(()));
-    assert_eq!(rt; cells, [Seconds::Of(0); 1]);
-    assert_eq!(rt; spare, [Seconds::Absent; 1]);
+    assert_eq!(rt; cells, [Seconds(Some(0)); 1]);
+    assert_eq!(rt; spare, [Seconds(None); 1]);
 }
 
 #[test]
@@ -144,10 +142,10 @@ fn the_larger_of_two_ways_is_chosen(rt: HostRuntime) {
     // 0 to 1 in 5 seconds, 1 to 2 in 6, 0 to 2 at once, and back to 0 with 20 to spare
     let links = [link(0, 1), link(1, 2), link(0, 2), link(2, 0)];
     let weights = [
-        Seconds::Of(5),
-        Seconds::Of(6),
-        Seconds::Of(0),
-        Seconds::Of(-20),
+        Seconds(Some(5)),
+        Seconds(Some(6)),
+        Seconds(Some(0)),
+        Seconds(Some(-20)),
     ];
     let mut cells = [OLD; 9];
     let mut spare = [OLD; 3];
@@ -158,18 +156,18 @@ fn the_larger_of_two_ways_is_chosen(rt: HostRuntime) {
     assert_eq!(rt;
         cells,
         [
-            Seconds::Of(0),
-            Seconds::Of(5),
-            Seconds::Of(11),
-            Seconds::Of(-14),
-            Seconds::Of(0),
-            Seconds::Of(6),
-            Seconds::Of(-20),
-            Seconds::Of(-15),
-            Seconds::Of(0),
+            Seconds(Some(0)),
+            Seconds(Some(5)),
+            Seconds(Some(11)),
+            Seconds(Some(-14)),
+            Seconds(Some(0)),
+            Seconds(Some(6)),
+            Seconds(Some(-20)),
+            Seconds(Some(-15)),
+            Seconds(Some(0)),
         ]
     );
-    assert_eq!(rt; spare, [Seconds::Absent; 3]);
+    assert_eq!(rt; spare, [Seconds(None); 3]);
 }
 
 #[test]
@@ -213,11 +211,11 @@ fn a_run_has_the_days_that_all_its_links_have(rt: HostRuntime) -> Result<(), Fai
 
 #[test]
 fn a_fault_reports_its_layer_number_and_place(rt: HostRuntime) {
-    assert_eq!(rt; TableFault::EventCount.report().number, 3);
-    assert_eq!(rt; TableFault::Event.report().number, 6);
-    assert_eq!(rt; TableFault::Length.report().number, 18);
-    assert_eq!(rt; TableFault::Span.report().number, 22);
-    let gain = TableFault::Gain(4).report();
+    assert_eq!(rt; Report::from(TableFault::EventCount).number, 3);
+    assert_eq!(rt; Report::from(TableFault::Event).number, 6);
+    assert_eq!(rt; Report::from(TableFault::Length).number, 18);
+    assert_eq!(rt; Report::from(TableFault::Span).number, 22);
+    let gain = Report::from(TableFault::Gain(4));
     assert_eq!(rt; gain.number, 23);
     assert_eq!(rt; gain.place, 4);
     assert_eq!(rt; gain.layer, faults::Layer::Table);

@@ -7,3 +7,4 @@ pub mod SpeltForms
 pub mod SpeltLines
 pub mod WrittenCalls
 pub mod WholeScripts
+pub mod Keywords

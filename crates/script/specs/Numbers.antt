@@ -1,8 +1,6 @@
 -- The numbers that words spell, in decimal and in hexadecimal.
 use Rattle.std.specs.Prelude.{ℕ, ◌+◌, ◌-◌, ◌*◌, Bool, true, false, cond, ◌&&◌, List, [], ◌∷◌, Some, None, Option, nat_le}
-use Rattle.std.specs.Borrow.{Bor}
 use Rattle.std.specs.Option.{option_map}
-use Rattle.script.specs.Words.{words}
 
 -- what follows of a value, if there is one
 abbrev pub bind : {A B : Type 0} → Option A → (A → Option B) → Option B
@@ -37,10 +35,10 @@ abbrev pub first_number : ℕ → List (List ℕ) → Option (ℕ × List (List 
 first_number limit [] = None
 first_number limit (word ∷ others) = option_map (λ n. (n, others)) (number_in limit word)
 
--- a number cut off, with the words of the text behind it
-abbrev pub number_cut : Option (ℕ × Bor (List ℕ)) → Option (ℕ × List (List ℕ))
-number_cut None = None
-number_cut (Some cut) = Some (cut.0, words cut.1.now)
+-- a number cut off, by its value, with the words behind it
+abbrev pub number_cut : {N : Type 0} → (N → ℕ) → Option N → List (List ℕ) → Option (ℕ × List (List ℕ))
+number_cut value None others = None
+number_cut value (Some n) others = Some (value n, others)
 
 -- the numbers that all words spell
 abbrev pub numbers_in : ℕ → List (List ℕ) → Option (List ℕ)

@@ -25,10 +25,10 @@ abbrev pub words : List ℕ → List (List ℕ)
 words [] = []
 words (b ∷ bytes) = cond (is_blank b) (words bytes) (cond (begins_word bytes) (onto_first b (words bytes)) ((b ∷ []) ∷ words bytes))
 
--- a word cut off and the text behind it, as words; or none
-abbrev pub words_cut : Option (Bor (List ℕ) × Bor (List ℕ)) → List (List ℕ)
-words_cut None = []
-words_cut (Some cut) = cut.0.now ∷ words cut.1.now
+-- a word cut off and the words behind it; or none
+abbrev pub words_cut : Option (Bor (List ℕ)) → List (List ℕ) → List (List ℕ)
+words_cut None others = []
+words_cut (Some word) others = word.now ∷ others
 
 -- the one word of a list that has one
 abbrev pub only_word : List (List ℕ) → Option (List ℕ)

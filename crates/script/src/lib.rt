@@ -2,12 +2,12 @@
 #![tactic(auto)]
 
 ghost use Rattle.std.specs.Prelude.{◌≡◌, ◌<◌, length, IfSome, IfOk};
-ghost use Rattle.std.specs.List.{prefix_len};
-ghost use Rattle.script.specs.Lines.{in_line, lines, lines_cut, LinesLaw, is_comment, line_of, reading_of};
+ghost use Rattle.std.specs.List.{position};
+ghost use Rattle.script.specs.Lines.{ends_line, lines, lines_cut, LinesLaw, is_comment, line_of, reading_of};
 ghost use Rattle.script.specs.Spelling.{LineLaw};
 
 use crate::forms::read_form;
-use crate::words::{is_word, next_word};
+use crate::words::Words;
 use calls::Call;
 use std::alloc::{AllocError, Global};
 
@@ -24,32 +24,11 @@ pub enum Line {
     Unknown,
 }
 
-// How many bytes stand before the first end of a line.
-fn line_length(script: &[u8]) -> usize
-    ensures { result ≡ prefix_len in_line script.now }
+// Where the first end of a line stands, if there is one.
+fn first_end(script: &[u8]) -> Option<usize>
+    ensures { result ≡ position ends_line script.now }
 {
-    for (i, byte) in script.iter().enumerate() {
-        if *byte == b'\n' {
-            return i;
-        }
-    }
-    script.len()
-}
-
-// The first line of a script and the script behind its end, or none where nothing is left.
-fn first_line(script: &[u8]) -> Option<(&[u8], &[u8])>
-    ensures lines { lines_cut result ≡ lines script.now }
-    ensures shorter { IfSome result (λ cut. length cut.1.now < length script.now) }
-{
-    if script.is_empty() {
-        return None;
-    }
-    let (line, rest) = script.split_at(line_length(script));
-    if rest.is_empty() {
-        return Some((line, rest));
-    }
-    let (_, behind) = rest.split_at(1);
-    Some((line, behind))
+    script.iter().position(|byte| *byte == b'\n')
 }
 
 // The first line of a script, without its end, and the script behind it; none where nothing is left. A last line needs no end. Its cost is
@@ -59,46 +38,42 @@ pub fn next_line(script: &[u8]) -> Option<(&[u8], &[u8])>
     ensures shorter { IfSome result (λ cut. length cut.1.now < length script.now) }
     ensures law { LinesLaw script.now }
 {
-    first_line(script)
+    if script.is_empty() {
+        return None;
+    }
+    match first_end(script) {
+        Some(end) => Some((&script[..end], &script[end + 1..])),
+        None => Some((script, &[])),
+    }
 }
 
 // Whether a line begins with a number sign.
 fn is_comment(line: &[u8]) -> bool
     ensures { result ≡ is_comment line.now }
 {
-    match line {
-        [b'#', ..] => true,
-        _ => false,
-    }
-}
-
-// What a line is, by its first word and the text behind it.
-fn line_of(heap: Global, line: &[u8]) -> Result<Line, AllocError>
-    ensures { IfOk result (λ read. reading_of read ≡ line_of line.now) }
-{
-    if is_comment(line) {
-        return Ok(Line::Silent);
-    }
-    let Some((keyword, text)) = next_word(line) else {
-        return Ok(Line::Silent);
-    };
-    if is_word(keyword, b"takeover") {
-        return match next_word(text) {
-            None => Ok(Line::Takeover),
-            Some(_) => Ok(Line::Unknown),
-        };
-    }
-    match read_form(heap, keyword, text)? {
-        Some(call) => Ok(Line::Call(call)),
-        None => Ok(Line::Unknown),
-    }
+    matches!(line, [b'#', ..])
 }
 
 // What a line is. It wants memory for an opening's departures and for a file's bytes alone, and fails only for want of it. Its cost is
 // linear in the length of the line.
+#[tactic(auto, using(crate::proofs::WrittenCalls::line_law))]
 pub fn read_line(heap: Global, line: &[u8]) -> Result<Line, AllocError>
     ensures reply { IfOk result (λ read. reading_of read ≡ line_of line.now) }
     ensures law { LineLaw line.now }
 {
-    line_of(heap, line)
+    if is_comment(line) {
+        return Ok(Line::Silent);
+    }
+    let mut words = Words::new(line);
+    let Some(keyword) = words.next() else {
+        return Ok(Line::Silent);
+    };
+    if keyword == b"takeover".as_slice() {
+        return match words.next() {
+            None => Ok(Line::Takeover),
+            Some(_) => Ok(Line::Unknown),
+        };
+    }
+    let call = read_form(heap, keyword, &mut words)?;
+    Ok(call.map_or(Line::Unknown, Line::Call))
 }

@@ -1,105 +1,120 @@
 // The numbers that words spell, in decimal and in hexadecimal.
-ghost use Rattle.std.specs.Prelude.{◌≡◌, ◌<◌, ◌≤◌, IfSome, IfOk, vec_items};
+ghost use Rattle.std.specs.Prelude.{◌≡◌, ◌<◌, ◌≤◌, ℕ, cond, nat_le, Some, None, IfSome, IfOk, vec_items};
 ghost use Rattle.std.specs.Option.{option_map};
-ghost use Rattle.script.specs.Words.{words};
-ghost use Rattle.script.specs.Numbers.{is_digit, number_in, first_number, number_cut, numbers_in, hex_digit, hex_byte, hex_bytes};
+ghost use Rattle.std.proofs.Common.{rules};
+ghost use Rattle.script.specs.Numbers.{number_in, first_number, number_cut, numbers_in, hex_digit, hex_byte, hex_bytes};
 ghost use Rattle.script.specs.Forms.{largest_8, largest_16, largest_32, one_number, two_numbers};
 
-use crate::words::{next_word, only_word};
+use crate::words::Words;
 use std::alloc::{AllocError, Global};
+use std::str;
 
-// Whether a byte is a decimal digit.
-fn is_digit(byte: u8) -> bool
-    ensures { result ≡ is_digit byte }
-{
-    byte >= b'0' && byte <= b'9'
+// A number of a size: of 8, 16 or 32 bits.
+pub trait Number: Sized {
+    // The largest number of this size.
+    ghost largest: { ℕ };
+
+    // The number that a value is.
+    ghost value: { Self → ℕ };
+
+    // A number of 32 bits as one of this size, unless it is too large.
+    fn of_number(number: u32) -> Option<Self>
+        ensures { option_map value result ≡ cond (nat_le number largest) (Some number) None };
+
+    // No size has more than 32 bits.
+    ghost fits: { largest ≤ largest_32 };
 }
 
-// The number that a word spells in decimal, if it is at most the limit.
-fn number_in(word: &[u8], limit: u32) -> Option<u32>
-    ensures reply { result ≡ number_in limit word.now }
-    ensures within { IfSome result (λ n. n ≤ limit) }
+impl Number for u8 {
+    ghost largest = { largest_8 };
+
+    ghost value = { λ number. number };
+
+    ghost fits = { Prim.search rules };
+
+    fn of_number(number: u32) -> Option<u8> {
+        u8::try_from(number).ok()
+    }
+}
+
+impl Number for u16 {
+    ghost largest = { largest_16 };
+
+    ghost value = { λ number. number };
+
+    ghost fits = { Prim.search rules };
+
+    fn of_number(number: u32) -> Option<u16> {
+        u16::try_from(number).ok()
+    }
+}
+
+impl Number for u32 {
+    ghost largest = { largest_32 };
+
+    ghost value = { λ number. number };
+
+    ghost fits = { Prim.search rules };
+
+    fn of_number(number: u32) -> Option<u32> {
+        Some(number)
+    }
+}
+
+// The number of 32 bits that a word spells in decimal. A plus in front, which `parse` allows, is none of its digits.
+fn decimal(word: &[u8]) -> Option<u32>
+    ensures { result ≡ number_in largest_32 word.now }
 {
-    if word.is_empty() {
+    if word.starts_with(b"+") {
         return None;
     }
-    let mut number: u64 = 0;
-    for byte in word {
-        if !is_digit(*byte) {
-            return None;
-        }
-        number = number * 10 + u64::from(*byte - b'0');
-        if number > u64::from(limit) {
-            return None;
-        }
+    str::from_utf8(word).ok()?.parse().ok()
+}
+
+// The number of a size that a word spells in decimal.
+fn number_in<N: Number>(word: &[u8]) -> Option<N>
+    ensures { option_map N.value result ≡ number_in N.largest word.now }
+{
+    N::of_number(decimal(word)?)
+}
+
+impl<'a> Words<'a> {
+    // The number of a size that the next word spells.
+    pub fn number<N: Number>(&mut self) -> Option<N>
+        ensures { number_cut N.value result self.new ≡ first_number N.largest self.old }
+    {
+        number_in(self.next()?)
     }
-    Some(number as u32)
-}
 
-// The number that the first word spells in decimal, if it is at most the limit, and the text behind it.
-fn number_field(text: &[u8], limit: u32) -> Option<(u32, &[u8])>
-    ensures reply { number_cut result ≡ first_number limit (words text.now) }
-    ensures within { IfSome result (λ cut. cut.0 ≤ limit) }
-{
-    let (word, rest) = next_word(text)?;
-    let number = number_in(word, limit)?;
-    Some((number, rest))
-}
-
-// The number of 16 bits that the first word spells, and the text behind it.
-pub fn short_field(text: &[u8]) -> Option<(u16, &[u8])>
-    ensures { number_cut result ≡ first_number largest_16 (words text.now) }
-{
-    let (number, rest) = number_field(text, 65_535)?;
-    Some((number as u16, rest))
-}
-
-// The number of 8 bits that the first word spells, and the text behind it.
-pub fn byte_field(text: &[u8]) -> Option<(u8, &[u8])>
-    ensures { number_cut result ≡ first_number largest_8 (words text.now) }
-{
-    let (number, rest) = number_field(text, 255)?;
-    Some((number as u8, rest))
-}
-
-// The number of 32 bits that the first word spells, and the text behind it.
-pub fn long_field(text: &[u8]) -> Option<(u32, &[u8])>
-    ensures { number_cut result ≡ first_number largest_32 (words text.now) }
-{
-    number_field(text, 4_294_967_295)
-}
-
-// The number of 16 bits of a text that has one word.
-pub fn one_number(text: &[u8]) -> Option<u16>
-    ensures { result ≡ one_number (words text.now) }
-{
-    let number = number_in(only_word(text)?, 65_535)?;
-    Some(number as u16)
-}
-
-// The two numbers of 16 bits of a text that has two words.
-pub fn two_numbers(text: &[u8]) -> Option<(u16, u16)>
-    ensures { result ≡ two_numbers (words text.now) }
-{
-    let (first, rest) = short_field(text)?;
-    let second = one_number(rest)?;
-    Some((first, second))
-}
-
-// The numbers of 32 bits that all words spell.
-pub fn all_numbers(heap: Global, text: &[u8]) -> Result<Option<Vec<u32>>, AllocError>
-    ensures { IfOk result (λ numbers. option_map vec_items numbers ≡ numbers_in largest_32 (words text.now)) }
-{
-    let mut numbers = Vec::new(heap);
-    let mut text = text;
-    while let Some((word, rest)) = next_word(text) {
-        let Some(number) = number_in(word, 4_294_967_295) else {
-            return Ok(None);
-        };
-        numbers.push(number)?;
-        text = rest;
+    // The number of 16 bits that the one word left spells.
+    pub fn one_number(&mut self) -> Option<u16>
+        ensures { result ≡ one_number self.old }
+    {
+        number_in(self.only()?)
     }
-    Ok(Some(numbers))
+
+    // The two numbers of 16 bits that the two words left spell.
+    pub fn two_numbers(&mut self) -> Option<(u16, u16)>
+        ensures { result ≡ two_numbers self.old }
+    {
+        let first = self.number()?;
+        let second = self.one_number()?;
+        Some((first, second))
+    }
+
+    // The numbers of 32 bits that all words left spell.
+    pub fn all_numbers(&mut self, heap: Global) -> Result<Option<Vec<u32>>, AllocError>
+        ensures { IfOk result (λ numbers. option_map vec_items numbers ≡ numbers_in largest_32 self.old) }
+    {
+        let mut numbers = Vec::new(heap);
+        for word in self.by_ref() {
+            let Some(number) = decimal(word) else {
+                return Ok(None);
+            };
+            numbers.push(number)?;
+        }
+        Ok(Some(numbers))
+    }
 }
 
 // The number that a hexadecimal digit stands for, in lower or upper case.
@@ -119,26 +134,22 @@ fn hex_digit(byte: u8) -> Option<u8>
 fn hex_byte(high: u8, low: u8) -> Option<u8>
     ensures { result ≡ hex_byte high low }
 {
-    let high = hex_digit(high)?;
-    let low = hex_digit(low)?;
-    Some(high * 16 + low)
+    Some(hex_digit(high)? * 16 + hex_digit(low)?)
 }
 
-// The bytes that a word spells in hexadecimal, two digits to a byte.
+// The bytes that a word spells in hexadecimal, two digits to a byte. The crate `hex` reports a lack of memory as a fault of the word, so it
+// does not serve here.
 pub fn hex_bytes(heap: Global, word: &[u8]) -> Result<Option<Vec<u8>>, AllocError>
     ensures { IfOk result (λ bytes. option_map vec_items bytes ≡ hex_bytes word.now) }
 {
     let mut bytes = Vec::new(heap);
-    let mut place = 0;
-    while place < word.len() {
-        if word.len() - place < 2 {
-            return Ok(None);
-        }
-        let Some(byte) = hex_byte(word[place], word[place + 1]) else {
+    let mut digits = word;
+    while let [high, low, rest @ ..] = digits {
+        let Some(byte) = hex_byte(*high, *low) else {
             return Ok(None);
         };
         bytes.push(byte)?;
-        place += 2;
+        digits = rest;
     }
-    Ok(Some(bytes))
+    Ok(digits.is_empty().then_some(bytes))
 }

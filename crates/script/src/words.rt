@@ -1,67 +1,76 @@
 // The words of a line, as parts of it.
-ghost use Rattle.std.specs.Prelude.{◌≡◌, ◌<◌, length, IfSome};
+ghost use Rattle.std.specs.Prelude.{◌≡◌};
 ghost use Rattle.std.specs.Option.{option_map};
-ghost use Rattle.std.specs.List.{prefix_len};
-ghost use Rattle.std.specs.Str.{bytes_eq};
+ghost use Rattle.std.specs.List.{position};
+ghost use Rattle.std.specs.Iterator.{item_count};
 ghost use Rattle.script.specs.Words.{is_blank, in_word, words, words_cut, only_word};
+
+use std::marker::Model;
 
 // Whether a byte separates words: a space, a tabulator or a carriage return.
 fn is_blank(byte: u8) -> bool
     ensures { result ≡ is_blank byte }
 {
-    byte == b' ' || byte == b'\t' || byte == b'\r'
+    matches!(byte, b' ' | b'\t' | b'\r')
 }
 
-// How many blanks stand at the front.
-fn count_blanks(text: &[u8]) -> usize
-    ensures { result ≡ prefix_len is_blank text.now }
+// Where the first word begins, if there is one.
+fn first_in_word(text: &[u8]) -> Option<usize>
+    ensures { result ≡ position in_word text.now }
 {
-    for (i, byte) in text.iter().enumerate() {
-        if !is_blank(*byte) {
-            return i;
-        }
+    text.iter().position(|byte| !is_blank(*byte))
+}
+
+// Where the first blank stands, if there is one.
+fn first_blank(text: &[u8]) -> Option<usize>
+    ensures { result ≡ position is_blank text.now }
+{
+    text.iter().position(|byte| is_blank(*byte))
+}
+
+// The words of a line that are still to be read. A contract sees their list.
+#[derive(Drop)]
+pub struct Words<'a> {
+    text: &'a [u8],
+}
+
+impl<'a> Model for Words<'a> {
+    ghost use Rattle.std.specs.Prelude.{ℕ, List};
+    ghost use Rattle.script.specs.Words.{words};
+
+    ghost Value = { List (List ℕ) };
+
+    ghost view = { λ it. words it.text.now };
+}
+
+impl<'a> Words<'a> {
+    // The words of a text.
+    pub fn new(text: &'a [u8]) -> Self
+        ensures { result ≡ words text.now }
+    {
+        Words { text }
     }
-    text.len()
-}
 
-// How many bytes stand before the first blank.
-fn word_length(text: &[u8]) -> usize
-    ensures { result ≡ prefix_len in_word text.now }
-{
-    for (i, byte) in text.iter().enumerate() {
-        if is_blank(*byte) {
-            return i;
-        }
-    }
-    text.len()
-}
-
-// The first word and the text behind it, or none where there is no word.
-pub fn next_word(text: &[u8]) -> Option<(&[u8], &[u8])>
-    ensures words { words_cut result ≡ words text.now }
-    ensures shorter { IfSome result (λ cut. length cut.1.now < length text.now) }
-{
-    let (_, text) = text.split_at(count_blanks(text));
-    if text.is_empty() {
-        return None;
-    }
-    Some(text.split_at(word_length(text)))
-}
-
-// The word of a text that has one word.
-pub fn only_word(text: &[u8]) -> Option<&[u8]>
-    ensures { option_map (λ x. x.now) result ≡ only_word (words text.now) }
-{
-    let (word, rest) = next_word(text)?;
-    match next_word(rest) {
-        None => Some(word),
-        Some(_) => None,
+    // The one word that is left, if there is just one.
+    pub fn only(&mut self) -> Option<&'a [u8]>
+        ensures { option_map (λ x. x.now) result ≡ only_word self.old }
+    {
+        let word = self.next()?;
+        self.next().is_none().then_some(word)
     }
 }
 
-// Whether a word is a certain text.
-pub fn is_word(word: &[u8], text: &[u8]) -> bool
-    ensures { result ≡ bytes_eq word.now text.now }
-{
-    word == text
+impl<'a> Iterator for Words<'a> {
+    type Item = &'a [u8];
+
+    ghost next_gives = { λ words word others. words_cut word others ≡ words };
+
+    ghost remaining = { item_count (λ words. words) };
+
+    fn next(&mut self) -> Option<&'a [u8]> {
+        let text = &self.text[first_in_word(self.text)?..];
+        let (word, rest) = text.split_at(first_blank(text).unwrap_or(text.len()));
+        self.text = rest;
+        Some(word)
+    }
 }

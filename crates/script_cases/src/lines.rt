@@ -4,20 +4,11 @@ use std::test::Fail;
 
 #[test]
 fn a_last_line_needs_no_end(rt: HostRuntime) -> Result<(), Fail> {
-    let Some((first, rest)) = next_line(b"open\n\nload") else {
-        assert!(rt; false);
-        return Ok(());
-    };
+    let (first, rest) = next_line(b"open\n\nload").ok_or("no first line")?;
     assert_eq!(rt; first, b"open".as_slice());
-    let Some((second, rest)) = next_line(rest) else {
-        assert!(rt; false);
-        return Ok(());
-    };
+    let (second, rest) = next_line(rest).ok_or("no second line")?;
     assert_eq!(rt; second, b"".as_slice());
-    let Some((third, rest)) = next_line(rest) else {
-        assert!(rt; false);
-        return Ok(());
-    };
+    let (third, rest) = next_line(rest).ok_or("no third line")?;
     assert_eq!(rt; third, b"load".as_slice());
     assert!(rt; next_line(rest).is_none());
     Ok(())
@@ -25,10 +16,7 @@ fn a_last_line_needs_no_end(rt: HostRuntime) -> Result<(), Fail> {
 
 #[test]
 fn an_end_is_no_line_of_its_own(rt: HostRuntime) -> Result<(), Fail> {
-    let Some((first, rest)) = next_line(b"load\r\n") else {
-        assert!(rt; false);
-        return Ok(());
-    };
+    let (first, rest) = next_line(b"load\r\n").ok_or("no first line")?;
     assert_eq!(rt; first, b"load\r".as_slice());
     assert!(rt; next_line(rest).is_none());
     assert!(rt; next_line(b"").is_none());

@@ -1,29 +1,29 @@
 // Replies as they are printed.
 use board::BoardFault;
 use board_file::{FrameFault, LoadFault, RecordFault};
-use calls::{CallFault, Reply};
+use calls::{Answer, CallFault, Reply};
 use std::test::Fail;
 
 #[test]
 fn replies_are_printed_in_words_and_numbers(rt: HostRuntime) -> Result<(), Fail> {
-    let done = Reply::Done;
+    let done = Reply(Ok(Answer::Done));
     assert_eq!(rt; format!(in rt.alloc(); "{done}")?.as_str(), "ok");
-    let number = Reply::Number(4);
+    let number = Reply(Ok(Answer::Number(4)));
     assert_eq!(rt; format!(in rt.alloc(); "{number}")?.as_str(), "number 4");
-    let ticket = Reply::Ticket { mark: 7, number: 3 };
+    let ticket = Reply(Ok(Answer::Ticket { mark: 7, number: 3 }));
     assert_eq!(rt; format!(in rt.alloc(); "{ticket}")?.as_str(), "ticket 7 3");
     Ok(())
 }
 
 #[test]
 fn refusals_are_printed_with_layer_number_and_place(rt: HostRuntime) -> Result<(), Fail> {
-    let refused = Reply::Refused(CallFault::Board(BoardFault::Circuit));
+    let refused = Reply(Err(CallFault::Board(BoardFault::Circuit)));
     assert_eq!(rt;
         format!(in rt.alloc(); "{refused}")?.as_str(),
         "refused board 12 0"
     );
     let cut = LoadFault::Record(RecordFault::Frame(FrameFault::PastEnd(65)));
-    let refused = Reply::Refused(CallFault::Load(cut));
+    let refused = Reply(Err(CallFault::Load(cut)));
     assert_eq!(rt;
         format!(in rt.alloc(); "{refused}")?.as_str(),
         "refused frame 24 65"

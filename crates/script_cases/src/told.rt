@@ -15,17 +15,15 @@ fn told_call(heap: Global, call: Call) -> Result<String, AllocError> {
             "opening: mark {mark}, {events} events, period {period}, departures {departures:?}"
         ),
         Call::Load { bytes } => format!(in heap; "loading: {bytes:?}"),
-        Call::Add(addition) => {
-            let from = addition.from;
-            let to = addition.to;
-            let time = addition.time;
-            let tokens = addition.tokens;
-            let days = addition.days;
-            let letter = addition.letter;
-            format!(in heap;
-                "adding: {from} to {to}, time {time}, tokens {tokens}, days {days}, letter {letter}"
-            )
-        }
+        Call::Add(addition) => format!(in heap;
+            "adding: {} to {}, time {}, tokens {}, days {}, letter {}",
+            addition.from,
+            addition.to,
+            addition.time,
+            addition.tokens,
+            addition.days,
+            addition.letter
+        ),
         Call::Retime { number, time } => format!(in heap; "retiming: {number}, time {time}"),
         Call::Withdraw { number } => format!(in heap; "withdrawing: {number}"),
         Call::Suspend { number } => format!(in heap; "suspending: {number}"),

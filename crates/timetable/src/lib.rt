@@ -2,7 +2,7 @@
 // what counts on a day, and slack.
 #![tactic(auto)]
 
-ghost use Rattle.std.specs.Prelude.{◌≡◌, ◌+◌, ◌*◌, ◌^◌, ◌<◌, ◌≤◌, false, ◌&&◌, [], ◌∷◌, ◌++◌, pos, is_some, is_ok, IfOk, IfErr, if◌then◌else◌, vec_len, vec_capacity, ◌==◌, int_lt, nat_lt};
+ghost use Rattle.std.specs.Prelude.{◌≡◌, ◌+◌, ◌*◌, ◌^◌, ◌<◌, ◌≤◌, false, ◌&&◌, [], ◌∷◌, ◌++◌, pos, is_some, is_ok, ok_or, IfOk, IfErr, if◌then◌else◌, vec_len, vec_capacity, ◌==◌, int_lt, nat_lt};
 ghost use Rattle.weights.specs.DaysKind.{days_of};
 ghost use Rattle.timetable.specs.Changes.{state_after, changes_counted, with_time, moved, changed};
 ghost use Rattle.timetable.specs.Words.{letter_of, byte_of, suspendable, is_live, counted, slack_of, link_of, free_days, row_at};
@@ -35,6 +35,10 @@ pub enum Letter {
     Headway,
 }
 
+// A byte that is no letter.
+#[derive(Clone, Copy, PartialEq, Eq, Debug)]
+pub struct UnknownLetter(pub u8);
+
 // Whether a constraint stands, is suspended, or is withdrawn for good.
 #[derive(Clone, Copy, PartialEq, Eq, Debug)]
 pub enum State {
@@ -65,42 +69,43 @@ pub struct Constraint {
     pub state: State,
 }
 
-impl Letter {
-    // The letter of an ASCII byte: R, L, T or H.
-    pub fn of_byte(byte: u8) -> Option<Letter>
-        ensures { result ≡ letter_of byte }
-    {
+// The letter of an ASCII byte: R, L, T or H.
+impl TryFrom<u8> for Letter {
+    type Error = UnknownLetter;
+
+    ghost try_from_gives = { λ byte letter. letter ≡ ok_or (letter_of byte) (record { 0 = byte }) };
+
+    fn try_from(byte: u8) -> Result<Letter, UnknownLetter> {
         match byte {
-            b'R' => Some(Letter::Running),
-            b'L' => Some(Letter::Layover),
-            b'T' => Some(Letter::Transfer),
-            b'H' => Some(Letter::Headway),
-            _ => None,
+            b'R' => Ok(Letter::Running),
+            b'L' => Ok(Letter::Layover),
+            b'T' => Ok(Letter::Transfer),
+            b'H' => Ok(Letter::Headway),
+            _ => Err(UnknownLetter(byte)),
         }
     }
+}
 
-    // The ASCII byte of a letter.
-    pub fn byte(self) -> u8
-        ensures { result ≡ byte_of self }
-    {
-        match self {
+// The ASCII byte of a letter.
+impl From<Letter> for u8 {
+    ghost from_gives = { λ letter byte. byte ≡ byte_of letter };
+
+    fn from(letter: Letter) -> u8 {
+        match letter {
             Letter::Running => b'R',
             Letter::Layover => b'L',
             Letter::Transfer => b'T',
             Letter::Headway => b'H',
         }
     }
+}
 
+impl Letter {
     // Whether a constraint of the letter may be suspended.
     pub fn is_suspendable(self) -> bool
         ensures { result ≡ suspendable self }
     {
-        match self {
-            Letter::Running => false,
-            Letter::Layover => false,
-            Letter::Transfer => true,
-            Letter::Headway => true,
-        }
+        matches!(self, Letter::Transfer | Letter::Headway)
     }
 }
 
@@ -109,21 +114,8 @@ impl LedgerEvent {
     pub fn changes_counted(self) -> bool
         ensures { result ≡ changes_counted self }
     {
-        match self {
-            LedgerEvent::Suspend => true,
-            LedgerEvent::Restore => true,
-            LedgerEvent::Dismiss => false,
-            LedgerEvent::Withdraw => true,
-        }
+        self != LedgerEvent::Dismiss
     }
-}
-
-// The time that lies so many periods after a departure.
-fn later_by(departure: u32, periods: u8, period: u32) -> u64
-    ensures value { result ≡ departure + periods * period }
-    ensures bound { result < 2 ^ 41 }
-{
-    u64::from(departure) + u64::from(periods) * u64::from(period)
 }
 
 impl Constraint {
@@ -131,32 +123,25 @@ impl Constraint {
     pub fn is_live(&self) -> bool
         ensures { result ≡ is_live self.now }
     {
-        match self.state {
-            State::Standing => true,
-            State::Suspended => true,
-            State::Withdrawn => false,
-        }
+        self.state != State::Withdrawn
     }
 
-    // Whether the constraint counts on a day, 0 for Monday to 6 for Sunday: it stands, and its mask has the day.
+    // Whether the constraint counts on a day, 0 for Monday to 6 for Sunday: it stands, and its mask has the day. The day stays a
+    // number, since a caller may ask for any, and on one above 6 nothing counts.
     pub fn counts_on(&self, day: u8) -> bool
         ensures { result ≡ counted day self.now }
     {
-        match self.state {
-            State::Standing => day < 7 && (self.days >> day) % 2 == 1,
-            State::Suspended => false,
-            State::Withdrawn => false,
-        }
+        self.state == State::Standing && day < 7 && (self.days >> day) % 2 == 1
     }
 
     // The slack, in seconds, where event `from` departs at `first` and event `to` at `second`, in a timetable of the period.
-    // It may be negative.
+    // It may be negative. The three numbers stay plain: a struct for them would be made for one call and taken apart in it.
     pub fn slack(&self, first: u32, second: u32, period: u32) -> i64
         ensures { result ≡ slack_of first second period self.now }
     {
-        let latest = later_by(second, self.tokens, period);
-        let earliest = u64::from(first) + u64::from(self.time);
-        latest as i64 - earliest as i64
+        let latest = i64::from(second) + i64::from(self.tokens) * i64::from(period);
+        let earliest = i64::from(first) + i64::from(self.time);
+        latest - earliest
     }
 
     // Whether the constraint is broken: its slack is negative.
@@ -177,6 +162,7 @@ impl Constraint {
     }
 
     // The days of the mask, where the constraint stands or is suspended and has no token; else none.
+    #[tactic(auto, using(crate::proofs::Free::free_on_all, crate::proofs::Free::free_on_none))]
     pub fn free_days(&self) -> Days
         ensures { days_of result.mask ≡ free_days self.now }
     {
@@ -222,20 +208,18 @@ impl Constraint {
 fn no_days() -> Days
     ensures { days_of result.mask ≡ (λ d. false) }
 {
-    <Days as weights::Weight>::none()
+    Days::none()
 }
 
 // The weekdays of a byte: its eighth bit stands for none.
 fn days_of(mask: u8) -> Days
     ensures { days_of result.mask ≡ days_of mask }
 {
-    match Days::of_mask(mask % 128) {
-        Some(days) => days,
-        None => unreachable(),
-    }
+    Days::try_from(mask % 128).unwrap()
 }
 
-// The constraints of a board by their numbers, with places reserved for all that it can have.
+// The constraints of a board by their numbers, with places reserved for all that it can have. That no call takes places away is a
+// clause of each, since it speaks of the table before and after, and a fact of the type speaks of one moment.
 #[derive(Drop)]
 pub struct ConstraintTable {
     pub rows: Vec<Constraint>,
@@ -266,29 +250,30 @@ impl ConstraintTable {
     }
 
     // Gives the constraint of a number another time, and answers whether there is one.
+    #[tactic(auto, using(crate::proofs::Changed::changed_set, crate::proofs::Changed::changed_past))]
     pub fn retime(&mut self, number: usize, time: u16) -> bool
         ensures given { result ≡ nat_lt number (vec_len self.old.rows) }
         ensures rows { self.new.rows.items ≡ changed (λ c. with_time c time) self.old.rows.items number }
         ensures capacity { vec_capacity self.new.rows ≡ vec_capacity self.old.rows }
     {
-        if number >= self.rows.len() {
+        let Some(constraint) = self.rows.get_mut(number) else {
             return false;
-        }
-        let constraint = &mut self.rows[number];
+        };
         constraint.retime(time);
         true
     }
 
     // Changes the state of the constraint of a number by an event and answers yes; where there is none, or the event is not due in its
     // state, nothing changes and the answer is no.
+    #[tactic(auto, using(crate::proofs::Changed::changed_set, crate::proofs::Changed::changed_past))]
     pub fn change(&mut self, number: usize, event: LedgerEvent) -> bool
         ensures due { result ≡ is_some (state_after (row_at self.old.rows.items number).state event) }
         ensures rows { self.new.rows.items ≡ changed (moved event) self.old.rows.items number }
         ensures capacity { vec_capacity self.new.rows ≡ vec_capacity self.old.rows }
     {
-        if number >= self.rows.len() {
+        let Some(constraint) = self.rows.get_mut(number) else {
             return false;
-        }
-        self.rows[number].change(event)
+        };
+        constraint.change(event)
     }
 }

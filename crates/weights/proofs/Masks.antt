@@ -48,8 +48,8 @@ mask_same : (a b : ℕ) → a < 128 → b < 128 → days_of a ≡ days_of b → 
 mask_same a b p q e = by_bits a b p q (day_same a b monday e) (day_same a b tuesday e) (day_same a b wednesday e) (day_same a b thursday e) (day_same a b friday e) (day_same a b saturday e) (day_same a b sunday e)
 
 -- two masks are equal exactly when their days are
-pub mask_equal : (a b : ℕ) → a < 128 → b < 128 → eqb b a ≡ days_kind.equal (days_of a) (days_of b)
-mask_equal a b p q = same_from_decides (eqb b a) (days_kind.equal (days_of a) (days_of b)) (Decides-like (eqb b a) (λ e. ap days_of (sym e)) (λ e. sym (mask_same a b p q e)) (Decides-eqb b a)) (days_laws.equal_says (days_of a) (days_of b))
+pub mask_equal : (a b : ℕ) → a < 128 → b < 128 → eqb a b ≡ days_kind.equal (days_of a) (days_of b)
+mask_equal a b p q = same_from_decides (eqb a b) (days_kind.equal (days_of a) (days_of b)) (Decides-like (eqb a b) (ap days_of) (mask_same a b p q) (Decides-eqb a b)) (days_laws.equal_says (days_of a) (days_of b))
 
 -- a mask of seven bits is 0 exactly when no weekday has its bit
 none_bit : (a : ℕ) → a < 128 → some_weekday (days_of a) ≡ not (eqb a 0)

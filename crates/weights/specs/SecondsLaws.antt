@@ -1,5 +1,5 @@
 -- Seconds keeps the laws: those of numbers by arithmetic, and by cases where a weight is absent.
-use Rattle.std.specs.Prelude.{◌≡◌, ℕ, ◌+◌, ◌/◌, ◌≤◌, max, ℤ, pos, negsuc, ◌+ℤ◌, Decides, ◌==◌, unsigned_abs, refl}
+use Rattle.std.specs.Prelude.{◌≡◌, ℕ, ◌+◌, ◌/◌, ◌≤◌, max, Option, Some, None, ℤ, pos, negsuc, ◌+ℤ◌, Decides, ◌==◌, unsigned_abs, refl}
 use Rattle.std.proofs.Common.{ap, arith}
 use Rattle.std.proofs.Math.IntN.{+ℤ_assoc, +ℤ_idl, +ℤ_idr}
 use Rattle.std.specs.Int.{int_max}
@@ -7,8 +7,6 @@ use Rattle.std.proofs.lemmas.Int.{ints, clamps}
 use Rattle.std.proofs.lemmas.Bool.Decides.{Decides-eqb, Decides-like}
 use Rattle.weights.specs.Kinds.{Laws, Idempotent}
 use Rattle.weights.specs.SecondsKind.{larger, sum, equal_numbers, equal_seconds, span_of, seconds_kind}
-use Rattle.weights.specs.declared.seconds.Seconds.{Seconds}
-use Rattle.weights.specs.declared.seconds.Seconds.TheVariants.{Absent, Of}
 
 max_assoc : (a b c : ℤ) → int_max (int_max a b) c ≡ int_max a (int_max b c)
 max_assoc a b c = omega (arith, ints, clamps)
@@ -38,52 +36,52 @@ abs_max a b = omega (arith, ints, clamps)
 abs_add : (a b : ℤ) → unsigned_abs (a +ℤ b) ≤ unsigned_abs a + unsigned_abs b
 abs_add a b = omega (arith, ints)
 
-choice_assoc : (a b c : Seconds) → larger (larger a b) c ≡ larger a (larger b c)
-choice_assoc Absent b c = refl
-choice_assoc (Of u) Absent c = refl
-choice_assoc (Of u) (Of v) Absent = refl
-choice_assoc (Of u) (Of v) (Of w) = ap Of (max_assoc u v w)
+choice_assoc : (a b c : Option ℤ) → larger (larger a b) c ≡ larger a (larger b c)
+choice_assoc None b c = refl
+choice_assoc (Some u) None c = refl
+choice_assoc (Some u) (Some v) None = refl
+choice_assoc (Some u) (Some v) (Some w) = ap Some (max_assoc u v w)
 
-choice_comm : (a b : Seconds) → larger a b ≡ larger b a
-choice_comm Absent Absent = refl
-choice_comm Absent (Of v) = refl
-choice_comm (Of u) Absent = refl
-choice_comm (Of u) (Of v) = ap Of (max_comm u v)
+choice_comm : (a b : Option ℤ) → larger a b ≡ larger b a
+choice_comm None None = refl
+choice_comm None (Some v) = refl
+choice_comm (Some u) None = refl
+choice_comm (Some u) (Some v) = ap Some (max_comm u v)
 
-choice_none : (a : Seconds) → larger a Absent ≡ a
-choice_none Absent = refl
-choice_none (Of v) = refl
+choice_none : (a : Option ℤ) → larger a None ≡ a
+choice_none None = refl
+choice_none (Some v) = refl
 
-chaining_assoc : (a b c : Seconds) → sum (sum a b) c ≡ sum a (sum b c)
-chaining_assoc Absent b c = refl
-chaining_assoc (Of u) Absent c = refl
-chaining_assoc (Of u) (Of v) Absent = refl
-chaining_assoc (Of u) (Of v) (Of w) = ap Of (+ℤ_assoc u v w)
+chaining_assoc : (a b c : Option ℤ) → sum (sum a b) c ≡ sum a (sum b c)
+chaining_assoc None b c = refl
+chaining_assoc (Some u) None c = refl
+chaining_assoc (Some u) (Some v) None = refl
+chaining_assoc (Some u) (Some v) (Some w) = ap Some (+ℤ_assoc u v w)
 
-start_left : (a : Seconds) → sum (Of (pos 0)) a ≡ a
-start_left Absent = refl
-start_left (Of v) = ap Of (+ℤ_idl v)
+start_left : (a : Option ℤ) → sum (Some (pos 0)) a ≡ a
+start_left None = refl
+start_left (Some v) = ap Some (+ℤ_idl v)
 
-start_right : (a : Seconds) → sum a (Of (pos 0)) ≡ a
-start_right Absent = refl
-start_right (Of v) = ap Of (+ℤ_idr v)
+start_right : (a : Option ℤ) → sum a (Some (pos 0)) ≡ a
+start_right None = refl
+start_right (Some v) = ap Some (+ℤ_idr v)
 
-none_right : (a : Seconds) → sum a Absent ≡ Absent
-none_right Absent = refl
-none_right (Of v) = refl
+none_right : (a : Option ℤ) → sum a None ≡ None
+none_right None = refl
+none_right (Some v) = refl
 
-over_left : (a b c : Seconds) → sum a (larger b c) ≡ larger (sum a b) (sum a c)
-over_left Absent b c = refl
-over_left (Of u) Absent c = refl
-over_left (Of u) (Of v) Absent = refl
-over_left (Of u) (Of v) (Of w) = ap Of (add_max u v w)
+over_left : (a b c : Option ℤ) → sum a (larger b c) ≡ larger (sum a b) (sum a c)
+over_left None b c = refl
+over_left (Some u) None c = refl
+over_left (Some u) (Some v) None = refl
+over_left (Some u) (Some v) (Some w) = ap Some (add_max u v w)
 
-over_right : (a b c : Seconds) → sum (larger a b) c ≡ larger (sum a c) (sum b c)
-over_right Absent b c = refl
-over_right (Of u) Absent Absent = refl
-over_right (Of u) Absent (Of w) = refl
-over_right (Of u) (Of v) Absent = refl
-over_right (Of u) (Of v) (Of w) = ap Of (max_add u v w)
+over_right : (a b c : Option ℤ) → sum (larger a b) c ≡ larger (sum a c) (sum b c)
+over_right None b c = refl
+over_right (Some u) None None = refl
+over_right (Some u) None (Some w) = refl
+over_right (Some u) (Some v) None = refl
+over_right (Some u) (Some v) (Some w) = ap Some (max_add u v w)
 
 numbers_say : (v w : ℤ) → Decides (equal_numbers v w) (v ≡ w)
 numbers_say (pos a) (pos b) = Decides-like (a == b) (ap pos) (λ e. cc) (Decides-eqb a b)
@@ -91,21 +89,21 @@ numbers_say (pos a) (negsuc b) = (λ e. cc, λ e. cc)
 numbers_say (negsuc a) (pos b) = (λ e. cc, λ e. cc)
 numbers_say (negsuc a) (negsuc b) = Decides-like (a == b) (ap negsuc) (λ e. cc) (Decides-eqb a b)
 
-equal_says : (a b : Seconds) → Decides (equal_seconds a b) (a ≡ b)
-equal_says Absent Absent = (λ e. refl, λ e. refl)
-equal_says Absent (Of w) = (λ e. cc, λ e. cc)
-equal_says (Of v) Absent = (λ e. cc, λ e. cc)
-equal_says (Of v) (Of w) = Decides-like (equal_numbers v w) (ap Of) (λ e. cc) (numbers_say v w)
+equal_says : (a b : Option ℤ) → Decides (equal_seconds a b) (a ≡ b)
+equal_says None None = (λ e. refl, λ e. refl)
+equal_says None (Some w) = (λ e. cc, λ e. cc)
+equal_says (Some v) None = (λ e. cc, λ e. cc)
+equal_says (Some v) (Some w) = Decides-like (equal_numbers v w) (ap Some) (λ e. cc) (numbers_say v w)
 
-span_choice : (a b : Seconds) → span_of (larger a b) ≤ max (span_of a) (span_of b)
-span_choice Absent b = omega arith
-span_choice (Of u) Absent = omega arith
-span_choice (Of u) (Of v) = span_max _ _ _ (abs_max u v)
+span_choice : (a b : Option ℤ) → span_of (larger a b) ≤ max (span_of a) (span_of b)
+span_choice None b = omega arith
+span_choice (Some u) None = omega arith
+span_choice (Some u) (Some v) = span_max _ _ _ (abs_max u v)
 
-span_chaining : (a b : Seconds) → span_of (sum a b) ≤ span_of a + span_of b
-span_chaining Absent b = omega arith
-span_chaining (Of u) Absent = omega arith
-span_chaining (Of u) (Of v) = span_add _ _ _ (abs_add u v)
+span_chaining : (a b : Option ℤ) → span_of (sum a b) ≤ span_of a + span_of b
+span_chaining None b = omega arith
+span_chaining (Some u) None = omega arith
+span_chaining (Some u) (Some v) = span_add _ _ _ (abs_add u v)
 
 pub seconds_laws : Laws seconds_kind
 seconds_laws = record {
@@ -127,5 +125,5 @@ seconds_laws = record {
 }
 
 pub seconds_idempotent : Idempotent seconds_kind
-seconds_idempotent Absent = refl
-seconds_idempotent (Of v) = ap Of (max_same v)
+seconds_idempotent None = refl
+seconds_idempotent (Some v) = ap Some (max_same v)

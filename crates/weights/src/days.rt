@@ -1,5 +1,5 @@
 // Days: sets of weekdays.
-ghost use Rattle.std.specs.Prelude.{◌≡◌, ◌<◌, ◌≤◌, ◌&&◌, MatchOption};
+ghost use Rattle.std.specs.Prelude.{◌≡◌, ◌<◌, ◌≤◌, ◌&&◌, MatchResult};
 ghost use Rattle.weights.specs.DaysKind.{days_of, some_weekday, days_kind};
 ghost use Rattle.weights.specs.DaysLaws.{days_laws, days_idempotent};
 
@@ -12,18 +12,34 @@ pub struct Days {
     ghost within: { mask < 128 },
 }
 
-impl Days {
-    // The days of a mask, or nothing where the mask has an eighth bit.
-    pub fn of_mask(mask: u8) -> Option<Days>
-        ensures { MatchOption result (128 ≤ mask) (λ days. (mask < 128) × (days.mask ≡ mask)) }
-    {
+// A mask with an eighth bit: it stands for no set of weekdays.
+#[derive(Clone, Copy, PartialEq, Eq, Debug)]
+pub struct NotWeekdays(pub u8);
+
+// No day. (A derive does not see that the ghost field holds.)
+impl Default for Days {
+    ghost is_default = { λ days. days_of days.mask ≡ days_kind.none };
+
+    fn default() -> Days {
+        Days::none()
+    }
+}
+
+impl TryFrom<u8> for Days {
+    type Error = NotWeekdays;
+
+    ghost try_from_gives = { λ mask result. MatchResult result (λ days. (mask < 128) × (days.mask ≡ mask)) (λ e. (128 ≤ mask) × (e.0 ≡ mask)) };
+
+    fn try_from(mask: u8) -> Result<Days, NotWeekdays> {
         if mask < 128 {
-            Some(Days { mask })
+            Ok(Days { mask })
         } else {
-            None
+            Err(NotWeekdays(mask))
         }
     }
+}
 
+impl Days {
     // The mask of the days.
     pub fn mask(self) -> u8
         ensures { result ≡ self.mask }
@@ -32,6 +48,7 @@ impl Days {
     }
 
     // Whether two sets of days have a day in common.
+    #[tactic(auto, using(crate::proofs::Masks::mask_meets))]
     pub fn meets(self, other: Days) -> bool
         ensures { result ≡ some_weekday (λ d. days_of self.mask d && days_of other.mask d) }
     {
@@ -68,8 +85,9 @@ impl Weight for Days {
         })
     }
 
+    #[tactic(auto, using(crate::proofs::Masks::mask_equal))]
     fn same(self, other: Days) -> bool {
-        other.mask == self.mask
+        self == other
     }
 
     fn span(self) -> u64 {

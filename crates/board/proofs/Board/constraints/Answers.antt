@@ -1,5 +1,5 @@
-use Rattle.std.proofs.Common.{sym, subst, arith}
-use Rattle.board.specs.Holding.{ledger_of, held_by}
+use Rattle.std.proofs.Common.{vec_items, sym, subst, arith}
+use Rattle.board.specs.Holding.{ledger_of}
 use Rattle.board.specs.Lending.{LendsRows}
 use Rattle.board.proofs.Lending.{lends}
 use Rattle.board.proofs.Board.constraints.Goals as goal
@@ -8,4 +8,4 @@ pub returns : goal.returns
 returns c =
     let board = c.args.self.now in
     subst (LendsRows (ledger_of board)) (sym c.as_slice.ensures.value)
-    (lends board.opened (held_by board) (omega (arith, board.few, board.table.rows.ok.0)) board.opening board.ranges board.sound (λ e. omega (arith, (board.blank e).0, board.table.rows.ok.0)))
+    (lends board.opening (vec_items board.departures) (vec_items board.table.rows) (omega (arith, board.few, board.table.rows.ok.0)) board.opened board.ranges board.sound (λ e. omega (arith, (board.blank e).0, board.table.rows.ok.0)))

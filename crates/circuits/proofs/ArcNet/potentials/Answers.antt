@@ -1,56 +1,31 @@
-use Rattle.std.proofs.Common.{◌≡◌, ℕ, ◌-◌, ◌<◌, ◌≤◌, length, take, pos, ◌<ℤ◌, sym, ◌∙◌, subst, arith, rules}
-use Rattle.std.proofs.lemmas.List.{length-take-le, get_or-take}
-use Rattle.circuits.specs.Arcs.{ArcsBelow, sum, numbers_of}
-use Rattle.circuits.specs.Potentials.{weight_at, ArePotentials, ShownGaining}
-use Rattle.circuits.specs.Rounds.{at}
-use Rattle.circuits.proofs.Nets.{still_sum}
-use Rattle.circuits.proofs.Potentials.{are_potentials, same_sum_at}
-use Rattle.circuits.proofs.Ratios.{take_modest}
+use Rattle.std.proofs.Common.{◌≡◌, List, ℤ, Result, MatchResult, pos, ◌<ℤ◌, sym, ◌∙◌, subst, arith, w64, to_z, of_z, rules}
+use Rattle.std.proofs.lemmas.Int.{ints}
+use Rattle.circuits.specs.declared.WeighedCircuit.{WeighedCircuit}
+use Rattle.circuits.specs.Holding.{arcs_of}
+use Rattle.circuits.specs.Potentials.{weight_at, Settles}
+use Rattle.circuits.specs.Ratios.{BetterCircuit}
+use Rattle.circuits.specs.Searches.{SettledAgainst}
+use Rattle.circuits.specs.Turns.{ShownTurned}
+use Rattle.circuits.proofs.Nets.{events_range, ranges_below, still_own, still_sum}
+use Rattle.circuits.proofs.Outcomes.{mapped_err}
+use Rattle.circuits.proofs.Potentials.{are_potentials, weight_at_is, gains_at}
+use Rattle.circuits.proofs.Ratios.{back}
 use Rattle.circuits.proofs.ArcNet.potentials.Goals as goal
 
-pub gaining_circuit-requires : goal.gaining_circuit-requires
-gaining_circuit-requires c =
+pub returns : goal.returns
+returns c =
     let net = c.args.self.now in
-    let acc = c.accepted-arcs.ensures in
-    let m : ℕ = length c.accepted-arcs.result.now in
-    let ws = c.weights_at-weights.result in
-    let same : net.events ≡ c.from.result = sym c.from.ensures in
-    let len : length ws ≡ 128 = search rules in
-    let le : m - 0 ≤ length ws = omega (arith, acc.count) in
+    let A = arcs_of net in
+    let range = events_range net.events net.size in
+    let price = c.ranges.price.fits in
+    let gain : to_z w64 (of_z w64 c.from.result) ≡ pos c.args.price = back c.from.result (omega (arith, ints, c.from.ensures)) ∙ c.from.ensures in
+    mapped_err c.search_against.result c.map_err.result _ (λ (r : Result (List ℤ) WeighedCircuit). MatchResult r (SettledAgainst A (pos c.args.price) (pos 1)) (BetterCircuit A (pos c.args.price) (pos 1))) (Settles net.events A (weight_at A c.args.price))
+    (subst (λ g. MatchResult c.search_against.result (SettledAgainst A g (pos 1)) (BetterCircuit A g (pos 1))) gain c.search_against.ensures) c.map_err.ensures.cases
+    (λ values s. are_potentials net.events A range.1 (ranges_below net.events A net.ranges) s.weight (weight_at A c.args.price) values (λ a h. s.weighs a h ∙ weight_at_is A c.args.price a) s.settled)
+    (λ x y post better.
+    let turned : ShownTurned x y = search rules in
     record {
-      paired = omega (arith, length-take-le (m - 0) ws le);
-      some = subst (λ n. 0 < n) same acc.some;
-      few = subst (λ n. n ≤ 32) same acc.few;
-      within = subst (λ n. ArcsBelow n c.accepted-arcs.result.now) same acc.within;
-      modest = take_modest (m - 0) ws le c.weights_at-weights.ensures.modest;
-      count = acc.count;
-    }
-
-pub returns-in-Ok : goal.returns-in-Ok
-returns-in-Ok c =
-    let net = c.args.self.now in
-    let acc = c.accepted-arcs.ensures in
-    let A = c.accepted-arcs.result.now in
-    let m : ℕ = length A in
-    let ws = c.weights_at-weights.result in
-    let price = c.args.price in
-    let e : (k : ℕ) → k < m → at (take (m - 0) ws) k ≡ weight_at A price k = λ k h. get_or-take (m - 0) ws k (pos 0) (omega arith) ∙ c.weights_at-weights.ensures.each k h in
-    subst (λ xs. ArePotentials net.events xs (weight_at xs price) c.in-Ok.values) acc.is (are_potentials net.events A acc.few acc.within (take (m - 0) ws) c.in-Ok.values (weight_at A price) e c.in-Ok.ensures)
-
-pub returns-in-Err : goal.returns-in-Err
-returns-in-Err c =
-    let net = c.args.self.now in
-    let acc = c.accepted-arcs.ensures in
-    let A = c.accepted-arcs.result.now in
-    let m : ℕ = length A in
-    let ws = c.weights_at-weights.result in
-    let price = c.args.price in
-    let found = c.in-Err.ensures in
-    let turned = c.with_sums.ensures.turned in
-    let e : (k : ℕ) → k < m → at (take (m - 0) ws) k ≡ weight_at A price k = λ k h. get_or-take (m - 0) ws k (pos 0) (omega arith) ∙ c.weights_at-weights.ensures.each k h in
-    let gains : pos 0 <ℤ sum (weight_at A price) (numbers_of c.in-Err.circuit) = subst (λ y. pos 0 <ℤ y) (same_sum_at A (take (m - 0) ws) (weight_at A price) e (numbers_of c.in-Err.circuit) found.0.circuit) found.0.gains in
-    subst (λ xs. ShownGaining xs (weight_at xs price) c.with_sums.result) acc.is (record {
-      own = c.with_sums.ensures.own;
-      gains = subst (λ y. pos 0 <ℤ y) (sym (still_sum A c.in-Err.circuit c.with_sums.result.circuit turned (weight_at A price))) gains;
-      lowest = turned.lowest;
+      own = still_own A x y turned better.own;
+      gains = subst (λ u. pos 0 <ℤ u) (sym (still_sum A x.circuit y.circuit turned.turned (weight_at A c.args.price))) (gains_at A c.args.price x better.own better.above);
+      lowest = turned.turned.lowest;
     })

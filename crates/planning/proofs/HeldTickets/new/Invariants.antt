@@ -1,8 +1,6 @@
-use Rattle.std.proofs.Common.{◌≡◌, ◌≤◌, replicate, None, vec_items, vec_len, vec_capacity}
+use Rattle.std.proofs.Common.{◌≡◌, ◌≤◌, vec_items, vec_len, vec_capacity}
+use Rattle.planning.specs.Places.{NoneHeld}
 use Rattle.planning.proofs.HeldTickets.new.Given as goal
 
-abbrev pub invariant-loop-k : goal.invariant-loop-k
-invariant-loop-k l =
-    (vec_items l.places ≡ replicate l._k None)
-    × (vec_len l.places ≡ l._k)
-    × (128 ≤ vec_capacity l.places)
+abbrev pub invariant-loop : goal.invariant-loop
+invariant-loop l = NoneHeld (vec_items l.places) × (vec_len l.places ≡ l.counter) × (128 ≤ vec_capacity l.places)

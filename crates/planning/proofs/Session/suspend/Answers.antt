@@ -1,28 +1,13 @@
-use Rattle.std.proofs.Common.{◌≡◌, get_or, set, Some, None, sym, ap, ◌∙◌, subst, arith}
-use Rattle.board.specs.Holding.{held_by, ledger_of}
-use Rattle.planning.specs.Tickets.{HoldsTickets}
+use Rattle.std.proofs.Common.{◌<◌, sym, arith}
+use Rattle.std.proofs.lemmas.Grind.{common_steps}
 use Rattle.planning.specs.Places.{places_of}
-use Rattle.planning.proofs.Held.{few_rows, place_empty, suspended_holds}
+use Rattle.planning.specs.Sessions.{session_ledger}
+use Rattle.planning.proofs.Held.{suspended_holds}
 use Rattle.planning.proofs.Session.suspend.Goals as goal
 
-pub put-requires : goal.put-requires
-put-requires c =
+pub invariant_of-self-2 : goal.invariant_of-self-2
+invariant_of-self-2 c =
     let s = c.args.self.now in
-    let places = places_of s.tickets in
-    let few = few_rows s.board.opened (held_by s.board) (omega (arith, s.board.few, s.board.table.rows.ok.0)) in
-    let empty = place_empty (ledger_of s.board) c.args.number places few s.held (sym c.in-Ok.ensures.reply) in
-    record {
-      inside = omega (arith, empty.0, c.from.ensures, s.count);
-      empty = ap (λ k. get_or places k None) c.from.ensures ∙ empty.1;
-    }
-
-pub invariant_of-self : goal.invariant_of-self
-invariant_of-self c =
-    let s = c.args.self.now in
-    let places = places_of s.tickets in
-    let few = few_rows s.board.opened (held_by s.board) (omega (arith, s.board.few, s.board.table.rows.ok.0)) in
-    let done = c.in-Ok.ensures in
-    let empty = place_empty (ledger_of s.board) c.args.number places few s.held (sym done.reply) in
-    let holds = suspended_holds (ledger_of s.board) (ledger_of c.suspend.new.board) c.args.number c.in-Ok.ticket places (omega (arith, empty.0, s.count, s.tickets.places.ok.0)) s.held (sym done.reply) done.after done.ticket.0 done.ticket.1 in
-    let written : set places c.args.number (Some c.in-Ok.ticket) ≡ places_of c.put.new.self = sym (c.put.ensures.after ∙ ap (λ k. set places k (Some c.in-Ok.ticket)) c.from.ensures) in
-    record { count = omega (arith, c.put.ensures.count, s.count); held = subst (HoldsTickets (ledger_of c.suspend.new.board)) written holds }
+    let done = c.in_ok-ticket.ensures in
+    let few : c.args.number < 128 = grind (arith, common_steps) in
+    record { held = λ k. rw (c.put.ensures, done.after) (suspended_holds (session_ledger s) c.board_number.result c.in_ok-ticket.ticket (places_of s.tickets) (omega arith) s.held (omega arith) (sym done.reply) done.ticket.0 done.ticket.1 k) }

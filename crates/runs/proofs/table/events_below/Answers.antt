@@ -1,14 +1,9 @@
-use Rattle.std.proofs.Common.{sym}
-use Rattle.runs.specs.Links.{no_link}
+use Rattle.std.proofs.Common.{◌∙◌, rules}
+use Rattle.std.proofs.lemmas.Iterator.{YieldsList-from_slice}
+use Rattle.std.proofs.lemmas.Iterator.Search.{all_from_yields_List}
 use Rattle.runs.specs.Tables.{link_below}
-use Rattle.runs.proofs.Searches.{every_on, every_off, every_end}
+use Rattle.runs.proofs.Searches.{every_is}
 use Rattle.runs.proofs.table.events_below.Goals as goal
 
-pub loop-link-preserved : goal.loop-link-preserved
-loop-link-preserved c = every_on (link_below c.args.n) c.args.links.now c.loop-link.link-index no_link c.loop-link-test.true (sym c.if-not-is_below.ensures) c.loop-link.invariant
-
-pub returns-then-not-is_below : goal.returns-then-not-is_below
-returns-then-not-is_below c = every_off (link_below c.args.n) c.args.links.now c.loop-link.link-index no_link c.loop-link-test.true (sym c.if-not-is_below.ensures) c.loop-link.invariant
-
 pub returns : goal.returns
-returns c = every_end (link_below c.args.n) c.args.links.now c.loop-link.link-index c.loop-link-test.false c.loop-link.invariant
+returns c = all_from_yields_List (link_below c.args.n) _ _ c.all.result c.all.ensures.ran (YieldsList-from_slice c.args.links.now (cc)) (λ x b q k. search rules) ∙ every_is (link_below c.args.n) c.args.links.now

@@ -1,11 +1,19 @@
-use Rattle.std.proofs.Common.{rules}
-use Rattle.runs.proofs.Tables.{law_from}
+use Rattle.std.proofs.Common.{◌≡◌, true, length, rules}
+use Rattle.runs.specs.Tables.{events_below, spans_at_most_one}
+use Rattle.runs.proofs.Tables.{fit_from, law_from}
 use Rattle.runs.proofs.table.table_of_runs.Goals as goal
 
-pub returns : goal.returns
-returns g c =
-    let met = g.met.W.Weight in
+pub invariant_of-net : goal.invariant_of-net
+invariant_of-net g c =
+    let below : events_below c.args.n c.args.links.now ≡ true = search rules in
+    let paired : length c.args.links.now ≡ length c.args.weights.now = search rules in
+    let light : spans_at_most_one g.W.Weight.kind g.W.Weight.meaning c.args.weights.now ≡ true = search rules in
     record {
-      table = search rules;
-      law = law_from g.W.Weight.kind g.W.Weight.meaning c.args.n c.args.links.now c.args.weights.now c.args.cells.now c.args.spare.now _ _ met.lawful met.idempotent c.checked_table.result c.checked_table.ensures;
+      few = search rules;
+      fit = fit_from g.W.Weight.kind g.W.Weight.meaning c.args.n c.args.links.now c.args.weights.now below paired light;
     }
+
+pub returns-clause-law : goal.returns-clause-law
+returns-clause-law g c =
+    let met = g.met.W.Weight in
+    law_from g.W.Weight.kind g.W.Weight.meaning c.args.n c.args.links.now c.args.weights.now c.args.cells.now c.args.spare.now _ c.fill_table.new.spare met.lawful met.idempotent c.fill_table.result (search rules)

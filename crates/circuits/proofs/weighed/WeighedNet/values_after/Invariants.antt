@@ -1,0 +1,7 @@
+use Rattle.std.proofs.Common.{◌≡◌, length}
+use Rattle.circuits.specs.Rounds.{HoldsRound}
+use Rattle.circuits.specs.Weighed.{arcs_in, weight_in}
+use Rattle.circuits.proofs.weighed.WeighedNet.values_after.Given as goal
+
+abbrev pub invariant-loop-done : goal.invariant-loop-done
+invariant-loop-done l = (length l.values ≡ 32) × HoldsRound (arcs_in l.self.arcs.now) (weight_in l.self.arcs.now) l.done l.values

@@ -1,6 +1,0 @@
-use Rattle.std.proofs.Common.{◌≡◌, ℕ, ◌<◌}
-use Rattle.runs.specs.Links.{at}
-use Rattle.runs.proofs.table.clear.Given as goal
-
-abbrev pub invariant-loop-w : goal.invariant-loop-w
-invariant-loop-w g l = (t : ℕ) → t < l.w-index → at g.W.Weight.kind g.W.Weight.meaning l.weights t ≡ g.W.Weight.kind.none

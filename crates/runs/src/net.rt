@@ -1,0 +1,158 @@
+// The rows of a table of runs over a net whose links have weights, round by round.
+ghost use Rattle.std.specs.Prelude.{◌≡◌, ℕ, ◌+◌, ◌*◌, ◌<◌, ◌≤◌, length, None, Decides};
+ghost use Rattle.std.specs.List.{AllByRecursion};
+ghost use Rattle.weights.specs.Kinds.{gains};
+ghost use Rattle.runs.specs.Runs.{cell};
+ghost use Rattle.runs.specs.Gaining.{gaining_event};
+ghost use Rattle.runs.specs.Links.{net_of, at};
+ghost use Rattle.runs.specs.Rounds.{seed, arrive, Fit};
+ghost use Rattle.std.proofs.Props.{props};
+
+use crate::Link;
+use weights::Weight;
+
+// The chaining of two weights whose spans leave room.
+fn chained<W: Weight>(a: W, b: W) -> W
+    requires { W.kind.span (W.meaning a) + W.kind.span (W.meaning b) ≤ 32 }
+    ensures { W.meaning result ≡ W.kind.chaining (W.meaning a) (W.meaning b) }
+{
+    a.chain(b).unwrap()
+}
+
+// Whether a weight gains.
+fn does_gain<W: Weight>(w: W) -> bool
+    ensures { result ≡ gains W.kind (W.meaning w) }
+{
+    !w.choose(W::start()).same(W::start())
+}
+
+// Writes none everywhere.
+pub(crate) fn clear<W: Weight>(weights: &mut [W])
+    ensures { (t : ℕ) → at W.kind W.meaning weights.new t ≡ W.kind.none }
+{
+    // `fill` asks for a clone that can't fail, and a kind of weight promises nothing of a clone
+    for w in weights.iter_mut() {
+        *w = W::none();
+    }
+}
+
+// What the empty run gives the cell (i, j).
+fn empty_run<W: Weight>(i: usize, j: usize) -> W
+    ensures { W.meaning result ≡ seed W.kind i j }
+{
+    if i == j { W::start() } else { W::none() }
+}
+
+// Writes into row `i` what the empty run gives.
+fn seed_row<W: Weight>(i: usize, row: &mut [W])
+    ensures { (j : ℕ) → j < length row.old → at W.kind W.meaning row.new j ≡ seed W.kind i j }
+{
+    for (j, cell) in row.iter_mut().enumerate() {
+        *cell = empty_run(i, j);
+    }
+}
+
+// Whether a row is what it was a round ago.
+fn is_settled<W: Weight>(row: &[W], before: &[W]) -> bool
+    requires { length row.now ≡ length before.now }
+    ensures { Decides result ((j : ℕ) → j < length row.now → at W.kind W.meaning row.now j ≡ at W.kind W.meaning before.now j) }
+{
+    row.iter().zip(before).all(|(new, old)| new.same(*old))
+}
+
+// Links between events, with a weight of span at most 1 for each.
+#[derive(Drop)]
+pub(crate) struct WeightedNet<'a, W: Weight> {
+    pub(crate) events: usize,
+    pub(crate) links: &'a [Link],
+    pub(crate) weights: &'a [W],
+    ghost few: { events ≤ 32 },
+    ghost fit: { Fit W.kind W.meaning events links.now weights.now } by { Prim.hlevel props },
+}
+
+// What reaches each event of a net, with room for one more link.
+#[derive(Drop)]
+struct Reached<'a, W: Weight> {
+    net: &'a WeightedNet<'a, W>,
+    weights: &'a [W],
+    ghost side: { length weights.now ≡ net.now.events },
+    ghost room: { AllByRecursion (λ w. W.kind.span (W.meaning w) ≤ 31) weights.now } by { Prim.hlevel props },
+}
+
+impl<'a, W: Weight> Reached<'a, W> {
+    // Chooses, at the second event of each link, between the cell in the row and what reaches its first event, chained with the
+    // link.
+    #[tactic(auto, using(crate::proofs::Turns::link_ends))]
+    fn extend(&self, row: &mut [W])
+        requires { length row.old ≡ self.now.net.now.events }
+        ensures { (j : ℕ) → j < self.now.net.now.events → at W.kind W.meaning row.new j ≡ W.kind.choice (at W.kind W.meaning row.old j) (arrive W.kind (net_of self.now.net.now.links.now) (at W.kind W.meaning self.now.net.now.weights.now) (at W.kind W.meaning self.now.weights.now) j (net_of self.now.net.now.links.now).links) }
+    {
+        for (link, weight) in self.net.links.iter().zip(self.net.weights) {
+            let to = usize::from(link.to);
+            row[to] = row[to].choose(chained(self.weights[usize::from(link.from)], *weight));
+        }
+    }
+
+    // The choice over the links to `j`, each chained behind what reaches its first event. In a fold, a closure would have to justify the
+    // chaining for any weights.
+    #[tactic(auto, using(crate::proofs::Turns::link_ends))]
+    fn closed_choice(&self, j: usize) -> W
+        ensures { W.meaning result ≡ arrive W.kind (net_of self.now.net.now.links.now) (at W.kind W.meaning self.now.net.now.weights.now) (at W.kind W.meaning self.now.weights.now) j (net_of self.now.net.now.links.now).links }
+    {
+        let mut best = W::none();
+        for (link, weight) in self.net.links.iter().zip(self.net.weights) {
+            if usize::from(link.to) == j {
+                best = best.choose(chained(self.weights[usize::from(link.from)], *weight));
+            }
+        }
+        best
+    }
+}
+
+impl<'a, W: Weight> WeightedNet<'a, W> {
+    // Writes into row `i` the choice over the runs of fewer links than there are events, a round for each, and ends early where a
+    // round changes nothing. `before` holds the row of the round before, and in the end the same row.
+    fn fill_row(&self, i: usize, row: &mut [W], before: &mut [W])
+        requires side { length row.old ≡ self.now.events }
+        requires same { length before.old ≡ length row.old }
+        ensures row { (j : ℕ) → j < self.now.events → at W.kind W.meaning row.new j ≡ cell W.kind (net_of self.now.links.now) (at W.kind W.meaning self.now.weights.now) self.now.events i j }
+        ensures before { (j : ℕ) → j < self.now.events → at W.kind W.meaning before.new j ≡ cell W.kind (net_of self.now.links.now) (at W.kind W.meaning self.now.weights.now) self.now.events i j }
+    {
+        clear(before);
+        for _ in 0..self.events {
+            seed_row(i, row);
+            let reached = Reached {
+                net: &*self,
+                weights: before,
+            };
+            reached.extend(row);
+            if is_settled(row, before) {
+                return;
+            }
+            before.copy_from_slice(row);
+        }
+    }
+
+    // Fills row after row, up to the first event from which a closed run of 1 to so many links as there are events gains. The cells are
+    // no part of the net: each method that changes them would owe that the rest of it stays.
+    pub(crate) fn fill_rows(&self, cells: &mut [W], spare: &mut [W]) -> Option<usize>
+        requires square { length cells.old ≡ self.now.events * self.now.events }
+        requires side { length spare.old ≡ self.now.events }
+        ensures gain { result ≡ gaining_event W.kind (net_of self.now.links.now) (at W.kind W.meaning self.now.weights.now) self.now.events }
+        ensures cells { result ≡ None → (i j : ℕ) → i < self.now.events → j < self.now.events → at W.kind W.meaning cells.new (i * self.now.events + j) ≡ cell W.kind (net_of self.now.links.now) (at W.kind W.meaning self.now.weights.now) self.now.events i j }
+    {
+        // of rows lent by `chunks_exact_mut` nothing is known once the loan ends
+        for i in 0..self.events {
+            let row = &mut cells[i * self.events..(i + 1) * self.events];
+            self.fill_row(i, row, spare);
+            let reached = Reached {
+                net: &*self,
+                weights: spare,
+            };
+            if does_gain(reached.closed_choice(i)) {
+                return Some(i);
+            }
+        }
+        None
+    }
+}

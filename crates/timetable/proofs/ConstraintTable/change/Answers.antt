@@ -1,9 +1,0 @@
-use Rattle.std.proofs.Common.{rules}
-use Rattle.timetable.proofs.Changed.{changed_set, changed_past, row_past, row_lent}
-use Rattle.timetable.proofs.ConstraintTable.change.Goals as goal
-
-pub returns-then-number-len : goal.returns-then-number-len
-returns-then-number-len c = search (rules, changed_past, row_past)
-
-pub returns : goal.returns
-returns c = search (rules, changed_set, row_lent)
