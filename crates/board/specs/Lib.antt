@@ -1,4 +1,5 @@
 pub mod Faults
+pub mod Shown
 pub mod Circuits
 pub mod Ledger
 pub mod Invariant

@@ -49,9 +49,10 @@ fn check_opening(events: u8, period: u32, departures: &[u32]) -> Result<(), Boar
     Ok(())
 }
 
-// Refuses an addition for the lowest cause before its circuits are looked at.
-fn check_ranges(events: u8, count: usize, addition: &Addition) -> Result<(), BoardFault>
-    ensures { fault_of result ≡ early_add_fault events count addition.now None }
+// The constraint of an addition, standing, or the lowest cause of refusing it before its circuits are looked at.
+fn standing(events: u8, count: usize, addition: &Addition) -> Result<Constraint, BoardFault>
+    ensures reply { fault_of result ≡ early_add_fault events count addition.now None }
+    ensures row { IfOk result (λ c. c ≡ constraint_of addition.now) }
 {
     if addition.from >= events || addition.to >= events {
         return Err(BoardFault::Event);
@@ -65,28 +66,21 @@ fn check_ranges(events: u8, count: usize, addition: &Addition) -> Result<(), Boa
     if !(1..=EVERY_DAY).contains(&addition.days) {
         return Err(BoardFault::Days);
     }
-    if Letter::try_from(addition.letter).is_err() {
+    let Ok(letter) = Letter::try_from(addition.letter) else {
         return Err(BoardFault::Letter);
-    }
+    };
     if count >= CAPACITY {
         return Err(BoardFault::Full);
     }
-    Ok(())
-}
-
-// The constraint of an addition, standing.
-fn standing(addition: &Addition) -> Constraint
-    ensures { result ≡ constraint_of addition.now }
-{
-    Constraint {
+    Ok(Constraint {
         from: addition.from,
         to: addition.to,
         time: addition.time,
         tokens: addition.tokens,
         days: addition.days,
-        letter: Letter::try_from(addition.letter).unwrap_or(Letter::Running),
+        letter,
         state: State::Standing,
-    }
+    })
 }
 
 impl Board {
@@ -147,15 +141,15 @@ impl Board {
     {
         let opening = self.opened()?;
         let count = self.table.rows.len();
-        check_ranges(opening.events, count, &addition)?;
+        let constraint = standing(opening.events, count, &addition)?;
         let events = usize::from(opening.events);
         if closes_circuit(events, self.table.rows.as_slice(), &addition) {
             return Err(BoardFault::Circuit);
         }
-        match self.table.push(standing(&addition)) {
+        match self.table.push(constraint) {
             Ok(()) => {
                 self.day = None;
-                Ok(count as u8)
+                Ok(u8::try_from(count).unwrap())
             }
             Err(_) => unreachable(),
         }

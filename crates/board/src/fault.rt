@@ -50,6 +50,7 @@ impl From<BoardFault> for Report {
     fn from(fault: BoardFault) -> Report {
         Report {
             layer: Layer::Board,
+            // the case's own number, for which std has no From
             number: fault as u8,
             place: 0,
         }

@@ -64,6 +64,7 @@ impl Board {
         ensures kept { kept_day self.new ≡ kept_through event (kept_day self.old) }
     {
         self.day = day_after(self.day, event);
+        // the answer is known, since the callers saw that the event is due
         let _ = self.table.change(usize::from(number), event);
     }
 
@@ -79,6 +80,7 @@ impl Board {
         }
         let _ = standing_at(self.table.rows.as_slice(), number)?;
         self.day = None;
+        // the answer is known, since the constraint was just seen
         let _ = self.table.retime(usize::from(number), time);
         Ok(())
     }
@@ -114,7 +116,8 @@ impl Board {
         })
     }
 
-    // Spends a ticket on an event, or hands it back with the fault.
+    // Spends a ticket on an event, or hands it back with the fault. The clause `reply` is that of both calls below, since it speaks of the
+    // ledger before the call, and a fact of the ticket's type would not know the ledger.
     fn spend(&mut self, ticket: Ticket, event: LedgerEvent) -> Result<(), (Ticket, BoardFault)>
         ensures reply { SpentOrBack result ticket (spend_fault (ledger_of self.old) ticket.mark ticket.number) }
         ensures after { ledger_of self.new ≡ spend_after event (ledger_of self.old) ticket.mark ticket.number }

@@ -37,7 +37,8 @@ const MOST_TOKENS: u8 = 7;
 // The mask of all seven days.
 const EVERY_DAY: u8 = 127;
 
-// A board is new until it is opened. All memory that it will ever want is reserved when it is made.
+// A board is new until it is opened. All memory that it will ever want is reserved when it is made. The clauses `after` and `kept` stand
+// at each call, since they speak of the board before and after it, and a fact of the type speaks of one moment.
 #[derive(Drop)]
 pub struct Board {
     opening: Option<OpeningRecord>,

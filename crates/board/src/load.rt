@@ -77,7 +77,7 @@ impl Board {
         ensures { ledger_of self.old ≡ nothing → OpenedBy bytes.now opening (ledger_of self.new) result }
     {
         judged(0, check_head(opening.events, opening.period))?;
-        // an array, since a board allocates nothing once it is made
+        // an array, since a board allocates nothing once it is made, and reading fills a slice that has its length already
         let mut places = [0; MOST_EVENTS];
         let departures = &mut places[..usize::from(opening.events)];
         read_departures(bytes, DEPARTURES, departures)?;
@@ -111,15 +111,12 @@ impl Board {
                 fault: BoardFault::Opened,
             });
         }
-        match self.read_file(bytes) {
-            Ok(()) => {
-                self.day = None;
-                Ok(())
-            }
-            Err(fault) => {
-                self.forget();
-                Err(fault)
-            }
+        let outcome = self.read_file(bytes);
+        if outcome.is_err() {
+            self.forget();
+        } else {
+            self.day = None;
         }
+        outcome
     }
 }

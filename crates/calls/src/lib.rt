@@ -13,7 +13,7 @@ use timetable::Addition;
 
 // A call of a board: opening it or loading it from a file's bytes, and the changes of its constraints. A restoration or a dismissal names its
 // ticket by mark and number: two fields, as a script spells them, and no type that would only be packed and taken apart.
-#[derive(Drop)]
+#[derive(Drop, PartialEq, Debug)]
 pub enum Call {
     Open {
         mark: u16,

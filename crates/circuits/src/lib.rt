@@ -17,8 +17,20 @@ mod sums;
 mod walk;
 mod weighed;
 
+// The most events of a net, and so the most arcs of a circuit.
+const MOST_EVENTS: usize = 32;
+
+// The most arcs of a net.
+const MOST_ARCS: usize = 128;
+
+// The largest gain of an arc, either way.
+const LARGEST_GAIN: i64 = 1_073_741_824;
+
+// The largest cost of an arc.
+const LARGEST_COST: i64 = 7;
+
 // An arc between two events, with what it gains and what it costs.
-#[derive(Clone, Copy, Default)]
+#[derive(Clone, Copy, Default, PartialEq, Debug)]
 pub struct Arc {
     pub from: u8,
     pub to: u8,
@@ -27,13 +39,13 @@ pub struct Arc {
 }
 
 // A circuit of at most 32 arcs, by their numbers.
-#[derive(Clone, Drop)]
+#[derive(Clone, Drop, PartialEq, Debug)]
 pub struct Circuit {
-    pub arcs: ArrayVec<u8, 32>,
+    pub arcs: ArrayVec<u8, MOST_EVENTS>,
 }
 
 // A circuit with what its gains and its costs add up to.
-#[derive(Clone, Drop)]
+#[derive(Clone, Drop, PartialEq, Debug)]
 pub struct WeighedCircuit {
     pub gain: i64,
     pub cost: i64,
@@ -45,7 +57,7 @@ pub struct WeighedCircuit {
 #[derive(Drop)]
 pub struct ArcNet {
     events: u8,
-    arcs: ArrayVec<Arc, 128>,
+    arcs: ArrayVec<Arc, MOST_ARCS>,
     ghost size: { in_range events ≡ true },
     ghost ranges: { every (arc_in_range events) arcs.items ≡ true },
 }

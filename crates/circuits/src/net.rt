@@ -7,7 +7,7 @@ ghost use Rattle.circuits.specs.Potentials.{weight_at, Settles};
 ghost use Rattle.circuits.specs.Ratios.{Improved, AnswersFromLowest};
 
 use crate::ratio::Ratio;
-use crate::{Arc, ArcNet, WeighedCircuit};
+use crate::{Arc, ArcNet, LARGEST_COST, LARGEST_GAIN, MOST_EVENTS, WeighedCircuit};
 use arrayvec::ArrayVec;
 
 impl Arc {
@@ -16,8 +16,8 @@ impl Arc {
         ensures { result ≡ arc_in_range events self.now }
     {
         (self.from < events && self.to < events)
-            && ((-1_073_741_824..=1_073_741_824).contains(&self.gain)
-                && (0..=7).contains(&self.cost))
+            && ((-LARGEST_GAIN..=LARGEST_GAIN).contains(&self.gain)
+                && (0..=LARGEST_COST).contains(&self.cost))
     }
 }
 
@@ -26,7 +26,7 @@ impl ArcNet {
     pub fn new(events: u8) -> Option<ArcNet>
         ensures { MatchOption result (in_range events ≡ false) (IsEmptyNet events) }
     {
-        if !(1..=32).contains(&events) {
+        if !(1..=MOST_EVENTS).contains(&usize::from(events)) {
             return None;
         }
         Some(ArcNet {
@@ -54,7 +54,7 @@ impl ArcNet {
     // circuit whose gain exceeds the price of its cost, from its arc of the lowest number on. With n events and m arcs it takes at most
     // n rounds of m steps, and where no early circuit is found n² × m more. The array has a place for each event that a net can have, since
     // nothing is allocated.
-    pub fn potentials(&self, price: u32) -> Result<[i64; 32], WeighedCircuit>
+    pub fn potentials(&self, price: u32) -> Result<[i64; MOST_EVENTS], WeighedCircuit>
         ensures { Settles self.now.events (arcs_of self.now) (weight_at (arcs_of self.now) price) result }
     {
         let ratio = Ratio {
@@ -62,7 +62,7 @@ impl ArcNet {
             cost: 1,
         };
         self.search_against(ratio)
-            .map_err(|circuit| circuit.turned_to_lowest())
+            .map_err(WeighedCircuit::turned_to_lowest)
     }
 
     // Of the circuits that cost something, one whose ratio of gain to cost is at least that of every other, from its arc of the lowest
@@ -72,9 +72,8 @@ impl ArcNet {
         ensures improved { Improved (arcs_of self.now) result }
         ensures lowest { AnswersFromLowest result }
     {
-        match self.improve() {
-            Ok(best) => Ok(best.map(|circuit| circuit.turned_to_lowest())),
-            Err(circuit) => Err(circuit.turned_to_lowest()),
-        }
+        self.improve()
+            .map(|best| best.map(WeighedCircuit::turned_to_lowest))
+            .map_err(WeighedCircuit::turned_to_lowest)
     }
 }

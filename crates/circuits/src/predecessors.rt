@@ -5,16 +5,16 @@ ghost use Rattle.circuits.specs.Arcs.{numbers_of};
 ghost use Rattle.circuits.specs.Walks.{IsChain, ArePredecessors, GainingCircuit};
 ghost use Rattle.circuits.specs.Weighed.{arcs_in, weight_in};
 
-use crate::Circuit;
 use crate::rounds::Round;
 use crate::weighed::WeighedNet;
+use crate::{Circuit, MOST_EVENTS};
 use arrayvec::ArrayVec;
 
 // For each event the latest arc that raised it, if any did, and the event where the way back begins.
 #[derive(Drop)]
 pub(crate) struct Predecessors<'a> {
     pub net: WeighedNet<'a>,
-    pub latest: [Option<usize>; 32],
+    pub latest: [Option<usize>; MOST_EVENTS],
     pub last: usize,
     ghost event: { last < 32 },
     ghost known: { ArePredecessors (arcs_in net.arcs.now) latest } by { Prim.hlevel props },
@@ -27,7 +27,7 @@ impl<'a> Predecessors<'a> {
     {
         Predecessors {
             net: *net,
-            latest: [None; 32],
+            latest: [None; MOST_EVENTS],
             last: 0,
         }
     }
@@ -48,7 +48,7 @@ impl<'a> Predecessors<'a> {
     }
 
     // The arcs back from the event raised last, as many as there are events, if there are so many.
-    fn path(&self) -> Option<ArrayVec<usize, 32>>
+    fn path(&self) -> Option<ArrayVec<usize, MOST_EVENTS>>
         ensures { IfSome result (λ path. (length path.items ≡ self.now.net.events) × IsChain (arcs_in self.now.net.arcs.now) path.items) }
     {
         let mut path = ArrayVec::new();

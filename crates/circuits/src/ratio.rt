@@ -7,7 +7,7 @@ ghost use Rattle.circuits.specs.Searches.{SettledAgainst};
 ghost use Rattle.circuits.specs.Weighed.{AreWeighed};
 
 use crate::weighed::{WeighedArc, WeighedNet};
-use crate::{Arc, ArcNet, Circuit, WeighedCircuit};
+use crate::{Arc, ArcNet, Circuit, MOST_ARCS, MOST_EVENTS, WeighedCircuit};
 use arrayvec::ArrayVec;
 
 // The ratio of a gain to a cost, neither of them larger than a circuit's can be.
@@ -42,8 +42,8 @@ impl ArcNet {
         self.arcs.as_slice()
     }
 
-    // Each arc weighed against a ratio.
-    fn weighed_against(&self, ratio: Ratio) -> ArrayVec<WeighedArc, 128>
+    // Each arc weighed against a ratio. A loop, since `collect` may fail, and here there is always room.
+    fn weighed_against(&self, ratio: Ratio) -> ArrayVec<WeighedArc, MOST_ARCS>
         ensures { AreWeighed (arcs_of self.now) ratio.gain ratio.cost (length (arcs_of self.now)) result.items }
     {
         let mut weighed = ArrayVec::new();
@@ -72,7 +72,7 @@ impl ArcNet {
     }
 
     // The values that no arc, weighed against a ratio, would raise, or a circuit whose ratio is above that.
-    pub(crate) fn search_against(&self, ratio: Ratio) -> Result<[i64; 32], WeighedCircuit>
+    pub(crate) fn search_against(&self, ratio: Ratio) -> Result<[i64; MOST_EVENTS], WeighedCircuit>
         ensures { MatchResult result (SettledAgainst (arcs_of self.now) ratio.gain ratio.cost) (BetterCircuit (arcs_of self.now) ratio.gain ratio.cost) }
     {
         let weighed = self.weighed_against(ratio);

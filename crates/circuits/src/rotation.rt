@@ -32,9 +32,8 @@ impl WeighedCircuit {
         ensures { ShownTurned self result }
     {
         WeighedCircuit {
-            gain: self.gain,
-            cost: self.cost,
             circuit: self.circuit.turned_to_lowest(),
+            ..self
         }
     }
 }

@@ -5,20 +5,22 @@ ghost use Rattle.circuits.specs.Rounds.{at, HoldsRound, HoldsRise, ValuesFit};
 ghost use Rattle.circuits.specs.Walks.{RaisesTo};
 ghost use Rattle.circuits.specs.Weighed.{arcs_in, weight_in, no_weighed_arc, GoesBelow, IsModest};
 
+use crate::MOST_EVENTS;
 use crate::weighed::{WeighedArc, WeighedNet};
 
-// The values of the events before a round and after it.
+// The values of the events before a round and after it. Each event of a net is below 32, so an index into an array of 32 needs no fact
+// about how many values there are.
 #[derive(Clone, Copy)]
 pub(crate) struct Round<'a> {
     pub net: WeighedNet<'a>,
-    pub old: [i64; 32],
-    pub new: [i64; 32],
+    pub old: [i64; MOST_EVENTS],
+    pub new: [i64; MOST_EVENTS],
     ghost roomy: { ValuesFit old },
     ghost rises: { HoldsRise (arcs_in net.arcs.now) (weight_in net.arcs.now) old new },
 }
 
 // What an arc brings to its end: the value at its start and its weight.
-fn brought(old: &[i64; 32], weighed: &WeighedArc) -> i64
+fn brought(old: &[i64; MOST_EVENTS], weighed: &WeighedArc) -> i64
     requires within { GoesBelow 32 weighed.now }
     requires modest { IsModest weighed.now }
     requires roomy { ValuesFit old.now }
@@ -29,7 +31,7 @@ fn brought(old: &[i64; 32], weighed: &WeighedArc) -> i64
 
 impl<'a> WeighedNet<'a> {
     // The round that begins with some values.
-    pub(crate) fn round(&self, old: [i64; 32]) -> Round<'a>
+    pub(crate) fn round(&self, old: [i64; MOST_EVENTS]) -> Round<'a>
         requires { ValuesFit old }
         ensures net { result.net ≡ self.now }
         ensures old { result.old ≡ old }
@@ -47,11 +49,11 @@ impl<'a> WeighedNet<'a> {
     }
 
     // The values after some rounds.
-    pub(crate) fn values_after(&self, rounds: usize) -> [i64; 32]
+    pub(crate) fn values_after(&self, rounds: usize) -> [i64; MOST_EVENTS]
         requires { rounds ≤ 32 }
         ensures { HoldsRound (arcs_in self.now.arcs.now) (weight_in self.now.arcs.now) rounds result }
     {
-        let mut values = [0; 32];
+        let mut values = [0; MOST_EVENTS];
         for done in 0..rounds {
             values = self.round(values).new;
         }

@@ -5,11 +5,12 @@ ghost use Rattle.circuits.specs.Arcs.{start_of, numbers_of};
 ghost use Rattle.circuits.specs.Walks.{nth, IsChain, WalksBack, IsRaised, OpenUpTo, FirstCircuit, GainingCircuit};
 ghost use Rattle.circuits.specs.Weighed.{arcs_in, weight_in};
 
-use crate::Circuit;
 use crate::weighed::WeighedNet;
+use crate::{Circuit, MOST_EVENTS};
 use arrayvec::ArrayVec;
 
-// The circuit of some numbers of arcs. No `From`, since there are numbers that no `u8` holds.
+// The circuit of some numbers of arcs. No `From`, since there are numbers that no `u8` holds, and a loop, since `collect` may fail, and here
+// there is always room.
 fn circuit_of(numbers: &[usize]) -> Circuit
     requires short { length numbers.now ≤ 32 }
     requires small { All (λ a. a < 256) numbers.now }
@@ -25,7 +26,7 @@ fn circuit_of(numbers: &[usize]) -> Circuit
 impl<'a> WeighedNet<'a> {
     // The arcs that raised one another, from the start on, up to the one that raised `last` in the last round. Not one function with
     // `Predecessors::path`: here each arc needs the number of its round and is there, and there none is needed and one may be missing.
-    fn walk_back(&self, last: usize) -> ArrayVec<usize, 32>
+    fn walk_back(&self, last: usize) -> ArrayVec<usize, MOST_EVENTS>
         requires event { last < 32 }
         requires raised { IsRaised (arcs_in self.now.arcs.now) (weight_in self.now.arcs.now) self.now.events last }
         ensures len { length result.items ≡ self.now.events }

@@ -8,11 +8,11 @@ use Rattle.delays.specs.Recovery.{recovery_on}
 
 -- the cell that says none
 abbrev pub empty_cell : Cell
-empty_cell = record { slack = None }
+empty_cell = record { recovery = None }
 
 -- what a cell says
 abbrev pub told : Cell → Option ℕ
-told cell = cell.slack
+told cell = cell.recovery
 
 -- a number of its own for each recovery time and for none, so that lists of them are compared as lists of numbers
 abbrev pub code : Option ℤ → ℕ

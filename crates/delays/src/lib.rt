@@ -7,7 +7,7 @@ ghost use Rattle.delays.specs.Cells.{empty_cell, told};
 // A recovery time in seconds, or none where there is no run.
 #[derive(Clone, Copy, PartialEq, Eq, Debug)]
 pub struct Cell {
-    slack: Option<u32>,
+    recovery: Option<u32>,
 }
 
 impl Cell {
@@ -15,13 +15,13 @@ impl Cell {
     pub fn none() -> Cell
         ensures { result ≡ empty_cell }
     {
-        Cell { slack: None }
+        Cell { recovery: None }
     }
 
     // What the cell says.
     pub fn recovery(self) -> Option<u32>
         ensures { result ≡ told self }
     {
-        self.slack
+        self.recovery
     }
 }

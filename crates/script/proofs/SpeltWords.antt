@@ -1,9 +1,9 @@
 -- The words that spell a call are read as the call, and no others are.
 use Rattle.std.proofs.lemmas.Bool.Decides.{nat_tests}
-use Rattle.std.proofs.Common.{◌≡◌, ℕ, List, [], ◌∷◌, Some, None, Option, refl, ap, arith}
+use Rattle.std.proofs.Common.{◌≡◌, ℕ, List, [], ◌∷◌, Some, None, Option, refl, arith}
 use Rattle.std.specs.Option.{option_map}
 use Rattle.script.specs.Words.{only_word}
-use Rattle.script.specs.Numbers.{bind, number_in, first_number}
+use Rattle.script.specs.Numbers.{bind, first_number}
 use Rattle.script.specs.Forms.{one_number, two_numbers}
 use Rattle.script.specs.Spelling.{Size, bits_16, largest, Field, number, SpeltBy, Spelt}
 

@@ -2,8 +2,8 @@
 ghost use Rattle.std.specs.Prelude.{◌≡◌, IfOk, vec_items};
 ghost use Rattle.std.specs.Option.{option_map};
 ghost use Rattle.script.specs.Words.{only_word};
-ghost use Rattle.script.specs.Numbers.{bind};
-ghost use Rattle.script.specs.Forms.{form_of, letter_in, opening_in, file_in, addition_in, form_in};
+ghost use Rattle.script.specs.Numbers.{bind, numbers_in};
+ghost use Rattle.script.specs.Forms.{form_of, opening, largest_32, letter_in, opening_in, file_in, addition_in, form_in};
 
 use crate::numbers::hex_bytes;
 use crate::words::Words;
@@ -35,17 +35,18 @@ fn addition(words: &mut Words<'_>) -> Option<Addition>
     })
 }
 
-// The opening whose fields are the words left. A `?` on an Option can't leave a Result, hence the `let .. else`.
+// The mark, the number of events and the period that begin an opening; its departures are the words still left.
+fn opening_head(words: &mut Words<'_>) -> Option<(u16, u8, u32)>
+    ensures { bind result (λ head. option_map (λ departures. opening head.0 head.1 head.2 departures) (numbers_in largest_32 words.new)) ≡ opening_in words.old }
+{
+    Some((words.number()?, words.number()?, words.number()?))
+}
+
+// The opening whose fields are the words left.
 fn opening(heap: Global, words: &mut Words<'_>) -> Result<Option<Call>, AllocError>
     ensures { IfOk result (λ call. option_map form_of call ≡ opening_in words.old) }
 {
-    let Some(mark) = words.number() else {
-        return Ok(None);
-    };
-    let Some(events) = words.number() else {
-        return Ok(None);
-    };
-    let Some(period) = words.number() else {
+    let Some((mark, events, period)) = opening_head(words) else {
         return Ok(None);
     };
     let departures = words.all_numbers(heap)?;
@@ -57,7 +58,7 @@ fn opening(heap: Global, words: &mut Words<'_>) -> Result<Option<Call>, AllocErr
     }))
 }
 
-// The bytes of the file that the words left spell in hexadecimal: none where there is no word.
+// The bytes of the file that the one word left spells in hexadecimal: an empty list where there is no word.
 fn file(heap: Global, words: &mut Words<'_>) -> Result<Option<Vec<u8>>, AllocError>
     ensures { IfOk result (λ bytes. option_map vec_items bytes ≡ file_in words.old) }
 {

@@ -16,7 +16,7 @@ mod numbers;
 mod words;
 
 // What a line of a script is: a call, the takeover, nothing to reply to, or none of these.
-#[derive(Drop)]
+#[derive(Drop, PartialEq, Debug)]
 pub enum Line {
     Call(Call),
     Takeover,

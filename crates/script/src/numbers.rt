@@ -17,7 +17,8 @@ pub trait Number: Sized {
     // The number that a value is.
     ghost value: { Self → ℕ };
 
-    // A number of 32 bits as one of this size, unless it is too large.
+    // A number of 32 bits as one of this size, unless it is too large. A bound `TryFrom<u32>` would say nothing of the result at a size that is
+    // not known: this clause would stand beside it as a law, with a proof for each size.
     fn of_number(number: u32) -> Option<Self>
         ensures { option_map value result ≡ cond (nat_le number largest) (Some number) None };
 
@@ -117,7 +118,7 @@ impl<'a> Words<'a> {
     }
 }
 
-// The number that a hexadecimal digit stands for, in lower or upper case.
+// The number that a hexadecimal digit stands for, in lower or upper case. `char::to_digit` answers 32 bits, which would have to be narrowed.
 fn hex_digit(byte: u8) -> Option<u8>
     ensures reply { result ≡ hex_digit byte }
     ensures within { IfSome result (λ digit. digit < 16) }
@@ -139,17 +140,19 @@ fn hex_byte(high: u8, low: u8) -> Option<u8>
 
 // The bytes that a word spells in hexadecimal, two digits to a byte. The crate `hex` reports a lack of memory as a fault of the word, so it
 // does not serve here.
+#[tactic(auto, using(crate::proofs::Gathering::pairs_of_word, crate::proofs::Gathering::odd_word))]
 pub fn hex_bytes(heap: Global, word: &[u8]) -> Result<Option<Vec<u8>>, AllocError>
     ensures { IfOk result (λ bytes. option_map vec_items bytes ≡ hex_bytes word.now) }
 {
+    let (pairs, []) = word.as_chunks::<2>() else {
+        return Ok(None);
+    };
     let mut bytes = Vec::new(heap);
-    let mut digits = word;
-    while let [high, low, rest @ ..] = digits {
+    for [high, low] in pairs {
         let Some(byte) = hex_byte(*high, *low) else {
             return Ok(None);
         };
         bytes.push(byte)?;
-        digits = rest;
     }
-    Ok(digits.is_empty().then_some(bytes))
+    Ok(Some(bytes))
 }

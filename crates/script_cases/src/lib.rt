@@ -9,6 +9,4 @@ mod lines;
 #[cfg(test)]
 mod replies;
 #[cfg(test)]
-mod told;
-#[cfg(test)]
 mod unknown;

@@ -10,14 +10,11 @@ use std::io::Read;
 const LIMIT: u64 = 4096;
 
 // Prints what there is to say of an opened board.
-fn print_report(rt: &HostRuntime, board: &Board) -> io::Result<()> {
+fn print_summary(rt: &HostRuntime, board: &Board) -> io::Result<()> {
     let Some(summary) = board.summary() else {
         return Ok(());
     };
-    println!(rt;
-        "events {} period {} constraints {}",
-        summary.events, summary.period, summary.constraints
-    )
+    println!(rt; "{summary}")
 }
 
 fn main(rt: HostRuntime) -> io::Result<()> {
@@ -25,7 +22,7 @@ fn main(rt: HostRuntime) -> io::Result<()> {
     rt.stdin().take(LIMIT).read_to_end(&mut file)?;
     let mut board = Board::new(rt.alloc())?;
     match board.load(&file) {
-        Ok(()) => print_report(&rt, &board),
+        Ok(()) => print_summary(&rt, &board),
         Err(fault) => {
             let report = Report::from(fault);
             println!(rt; "refused {report}")

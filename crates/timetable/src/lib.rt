@@ -109,6 +109,21 @@ impl Letter {
     }
 }
 
+impl State {
+    // The state after an event, where the event is due in the state.
+    pub fn after(self, event: LedgerEvent) -> Option<State>
+        ensures { result ≡ state_after self event }
+    {
+        match (self, event) {
+            (State::Standing, LedgerEvent::Suspend) => Some(State::Suspended),
+            (State::Standing, LedgerEvent::Withdraw) => Some(State::Withdrawn),
+            (State::Suspended, LedgerEvent::Restore) => Some(State::Standing),
+            (State::Suspended, LedgerEvent::Dismiss) => Some(State::Withdrawn),
+            _ => None,
+        }
+    }
+}
+
 impl LedgerEvent {
     // Whether the event can change what counts on some day: a dismissal cannot, since neither a suspended nor a withdrawn constraint counts.
     pub fn changes_counted(self) -> bool
@@ -185,12 +200,8 @@ impl Constraint {
         ensures due { result ≡ is_some (state_after self.old.state event) }
         ensures after { self.new ≡ moved event self.old }
     {
-        let state = match (self.state, event) {
-            (State::Standing, LedgerEvent::Suspend) => State::Suspended,
-            (State::Standing, LedgerEvent::Withdraw) => State::Withdrawn,
-            (State::Suspended, LedgerEvent::Restore) => State::Standing,
-            (State::Suspended, LedgerEvent::Dismiss) => State::Withdrawn,
-            _ => return false,
+        let Some(state) = self.state.after(event) else {
+            return false;
         };
         self.state = state;
         true
@@ -219,7 +230,8 @@ fn days_of(mask: u8) -> Days
 }
 
 // The constraints of a board by their numbers, with places reserved for all that it can have. That no call takes places away is a
-// clause of each, since it speaks of the table before and after, and a fact of the type speaks of one moment.
+// clause of each, since it speaks of the table before and after, and a fact of the type speaks of one moment; nor is it a fact of the
+// type that there are 128 places, since that would ask more of who writes the open field, and each clause would stand as before.
 #[derive(Drop)]
 pub struct ConstraintTable {
     pub rows: Vec<Constraint>,
@@ -249,7 +261,8 @@ impl ConstraintTable {
         Ok(())
     }
 
-    // Gives the constraint of a number another time, and answers whether there is one.
+    // Gives the constraint of a number another time, and answers whether there is one. It shares three lines with the change below: a
+    // function of both that takes the step as a closure would need more clauses than it spares.
     #[tactic(auto, using(crate::proofs::Changed::changed_set, crate::proofs::Changed::changed_past))]
     pub fn retime(&mut self, number: usize, time: u16) -> bool
         ensures given { result ≡ nat_lt number (vec_len self.old.rows) }

@@ -22,8 +22,8 @@ invariant_of-self c =
     let o = c.in_ok-opening.opening in
     let calm : closes_circuit o.events rows a ≡ false = grind (arith, common_steps) in
     let before : Fit board.opening rows = record { few = omega (arith, board.few, board.table.rows.ok.0); ranges = board.ranges; sound = board.sound; blank = λ new. omega (arith, (board.blank new).0, board.table.rows.ok.0) } in
-    let grown : vec_items c.push.new.self.rows ≡ rows ++ constraint_of a ∷ [] = c.in-Ok.ensures.rows ∙ ap (λ x. rows ++ x ∷ []) c.standing.ensures in
-    let fit = added_fit board.opening rows (vec_items c.push.new.self.rows) before o c.len-count.result a c.in_ok-opening.ensures (omega (arith, board.table.rows.ok.0, c.len-count.ensures)) (sym c.in_ok-check_ranges.ensures) calm grown in
+    let grown : vec_items c.push.new.self.rows ≡ rows ++ constraint_of a ∷ [] = c.in-Ok.ensures.rows ∙ ap (λ x. rows ++ x ∷ []) c.in_ok-constraint.ensures.row in
+    let fit = added_fit board.opening rows (vec_items c.push.new.self.rows) before o c.len-count.result a c.in_ok-opening.ensures (omega (arith, board.table.rows.ok.0, c.len-count.ensures)) (sym c.in_ok-constraint.ensures.reply) calm grown in
     record {
       room = search rules;
       few = omega (arith, fit.few, c.push.new.self.rows.ok.0);

@@ -21,8 +21,8 @@ round-round-requires c =
     let few = net.few in
     row_roomy (arcs_in net.arcs.now) (weight_in net.arcs.now) c.loop-done.done c.loop-done.values (omega arith) c.loop-done.invariant.len (net_fits net) c.loop-done.invariant.held
 
-pub returns-in-None : goal.returns-in-None
-returns-in-None c =
+pub returns-in_default : goal.returns-in_default
+returns-in_default c =
     let net = c.args.self.now in
     let r = c.round-round.result in
     let values = c.loop-done.values in
@@ -30,7 +30,7 @@ returns-in-None c =
     record {
       round = c.loop-done.done;
       values = c.loop-done.invariant.held;
-      holds = settled_holds (arcs_in net.arcs.now) (weight_in net.arcs.now) values r.new (below_all net) rises (rw c.round-round.ensures.old at c.in-None.ensures);
+      holds = settled_holds (arcs_in net.arcs.now) (weight_in net.arcs.now) values r.new (below_all net) rises (rw c.round-round.ensures.old at c.in_default.ensures);
     }
 
 pub loop-done-preserved : goal.loop-done-preserved
