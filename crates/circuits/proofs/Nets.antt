@@ -5,7 +5,7 @@ use Rattle.std.proofs.lemmas.Int.{ints}
 use Rattle.runs.specs.Tables.{in_range, every}
 use Rattle.runs.proofs.Searches.{and_both, and_first, and_second}
 use Rattle.circuits.specs.declared.Arc.{Arc}
-use Rattle.circuits.specs.declared.Circuit.{Circuit}
+use Rattle.circuits.specs.declared.numbers.Circuit.{Circuit}
 use Rattle.circuits.specs.declared.WeighedCircuit.{WeighedCircuit}
 use Rattle.circuits.specs.Arcs.{arc_in_range, ArcsBelow, ArcsFit, CircuitOf, numbers_of, gain_of, cost_of, sum}
 use Rattle.circuits.specs.Turns.{TurnsToLowest, ShownTurned}

@@ -13,7 +13,7 @@ use Rattle.circuits.specs.Arcs.{no_arc, end_of, gain_of, cost_of, arcs_net, Circ
 use Rattle.circuits.specs.Ratios.{weight_of, OwnSums, BetterCircuit, NoneBetter, Improved}
 use Rattle.circuits.specs.Searches.{SettledRow}
 use Rattle.circuits.proofs.Rises.{arc_inside, none_gains}
-use Rattle.circuits.specs.declared.Circuit.{Circuit}
+use Rattle.circuits.specs.declared.numbers.Circuit.{Circuit}
 use Rattle.circuits.specs.declared.WeighedCircuit.{WeighedCircuit}
 use Rattle.circuits.specs.Walks.{GainingCircuit, NoneGains}
 

@@ -1,9 +1,9 @@
 -- Arcs with a gain and a cost each, the net that they form, and what the numbers along a run add up to.
-use Rattle.std.specs.Prelude.{ℕ, ◌<◌, ◌≤◌, Bool, ◌&&◌, List, [], ◌∷◌, length, ℤ, pos, negsuc, ◌+ℤ◌, ◌≤ℤ◌, int_le, nat_lt, slice_index_or, unsigned_abs}
+use Rattle.std.specs.Prelude.{ℕ, ◌<◌, ◌≤◌, Bool, ◌&&◌, List, [], ◌∷◌, length, take, ℤ, pos, negsuc, ◌+ℤ◌, ◌≤ℤ◌, int_le, nat_lt, slice_index_or, unsigned_abs}
 use Rattle.std.specs.List.{range_with_len, AllByRecursion}
 use Rattle.runs.specs.Nets.{Net, IsCircuit}
 use Rattle.circuits.specs.declared.Arc.{Arc}
-use Rattle.circuits.specs.declared.Circuit.{Circuit}
+use Rattle.circuits.specs.declared.numbers.Circuit.{Circuit}
 
 -- what stands for an arc past the end of a list
 abbrev pub no_arc : Arc
@@ -43,7 +43,7 @@ BeginsLowest (a ∷ run) = AllByRecursion (λ b. a ≤ b) run
 
 -- the arcs of a circuit, by their numbers
 abbrev pub numbers_of : Circuit → List ℕ
-numbers_of c = c.arcs.items
+numbers_of c = take c.len c.arcs
 
 -- an arc between events below n, with a gain of at most 1,073,741,824 either way and a cost of 0 to 7
 abbrev pub arc_in_range : ℕ → Arc → Bool

@@ -1,6 +1,6 @@
 -- A circuit turned to begin elsewhere: for the private functions.
 use Rattle.std.specs.Prelude.{◌≡◌, ℕ, ◌++◌, take, drop}
-use Rattle.circuits.specs.declared.Circuit.{Circuit}
+use Rattle.circuits.specs.declared.numbers.Circuit.{Circuit}
 use Rattle.circuits.specs.declared.WeighedCircuit.{WeighedCircuit}
 use Rattle.circuits.specs.Arcs.{numbers_of, BeginsLowest}
 

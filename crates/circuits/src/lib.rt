@@ -8,6 +8,7 @@ ghost use Rattle.circuits.specs.Arcs.{arc_in_range};
 use arrayvec::ArrayVec;
 
 mod net;
+mod numbers;
 mod predecessors;
 mod ratio;
 mod rotation;
@@ -16,6 +17,8 @@ mod search;
 mod sums;
 mod walk;
 mod weighed;
+
+pub use numbers::Circuit;
 
 // The most events of a net, and so the most arcs of a circuit.
 const MOST_EVENTS: usize = 32;
@@ -38,14 +41,8 @@ pub struct Arc {
     pub cost: i64,
 }
 
-// A circuit of at most 32 arcs, by their numbers.
-#[derive(Clone, Drop, PartialEq, Debug)]
-pub struct Circuit {
-    pub arcs: ArrayVec<u8, MOST_EVENTS>,
-}
-
 // A circuit with what its gains and its costs add up to.
-#[derive(Clone, Drop, PartialEq, Debug)]
+#[derive(Clone, Copy, PartialEq, Debug)]
 pub struct WeighedCircuit {
     pub gain: i64,
     pub cost: i64,

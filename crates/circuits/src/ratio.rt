@@ -89,9 +89,12 @@ impl ArcNet {
     {
         let mut best = None;
         let mut ratio = Ratio { gain: -1, cost: 0 };
-        'rising: while let Err(circuit) = self.search_against(ratio) {
+        'rising: loop {
+            let Err(circuit) = self.search_against(ratio) else {
+                break 'rising Ok(best);
+            };
             if circuit.cost == 0 {
-                return Err(circuit);
+                break 'rising Err(circuit);
             }
             ratio = Ratio {
                 gain: circuit.gain,
@@ -99,6 +102,5 @@ impl ArcNet {
             };
             best = Some(circuit);
         }
-        Ok(best)
     }
 }

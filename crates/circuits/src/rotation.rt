@@ -16,13 +16,18 @@ fn lowest_place(numbers: &[u8]) -> Option<usize>
 
 impl Circuit {
     // The circuit from its arc of the lowest number on.
-    pub(crate) fn turned_to_lowest(mut self) -> Circuit
+    pub(crate) fn turned_to_lowest(self) -> Circuit
         ensures { TurnsToLowest self result }
     {
-        if let Some(place) = lowest_place(self.arcs.as_slice()) {
-            self.arcs.rotate_left(place);
+        let Some(place) = lowest_place(self.numbers()) else {
+            return self;
+        };
+        let mut arcs = self.arcs;
+        arcs[..self.len].rotate_left(place);
+        Circuit {
+            arcs,
+            len: self.len,
         }
-        self
     }
 }
 

@@ -15,7 +15,7 @@ impl Circuit {
         ensures sum { (f : ℕ → ℤ) → ((a : ℕ) (x : ℤ) → F.post number a x → x ≡ f a) → result ≡ sum f (numbers_of self.now) }
     {
         let mut total = 0;
-        for arc in self.arcs.as_slice() {
+        for arc in self.numbers() {
             total += number(usize::from(*arc));
         }
         total

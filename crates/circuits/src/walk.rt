@@ -9,18 +9,21 @@ use crate::weighed::WeighedNet;
 use crate::{Circuit, MOST_EVENTS};
 use arrayvec::ArrayVec;
 
-// The circuit of some numbers of arcs. No `From`, since there are numbers that no `u8` holds, and a loop, since `collect` may fail, and here
-// there is always room.
+// The circuit of some numbers of arcs. No `From`, since there are numbers that no `u8` holds, and a loop with an index, since of a loop over a
+// zip of what is written nothing is known.
 fn circuit_of(numbers: &[usize]) -> Circuit
     requires short { length numbers.now ≤ 32 }
     requires small { All (λ a. a < 256) numbers.now }
     ensures { numbers_of result ≡ numbers.now }
 {
-    let mut arcs = ArrayVec::new();
-    for number in numbers {
-        arcs.push(u8::try_from(*number).unwrap());
+    let mut arcs = [0; MOST_EVENTS];
+    for (place, number) in numbers.iter().enumerate() {
+        arcs[place] = u8::try_from(*number).unwrap();
     }
-    Circuit { arcs }
+    Circuit {
+        arcs,
+        len: numbers.len(),
+    }
 }
 
 impl<'a> WeighedNet<'a> {

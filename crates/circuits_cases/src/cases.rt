@@ -1,5 +1,4 @@
 // Circuits of small nets: their sums, and by which arcs they go.
-use arrayvec::ArrayVec;
 use circuits::{Arc, ArcNet, Circuit, WeighedCircuit};
 use std::test::Fail;
 
@@ -23,8 +22,14 @@ fn net_of(events: u8, arcs: &[Arc]) -> Result<ArcNet, Fail> {
 
 // A circuit by the numbers of its arcs, with its sums.
 fn weighed(gain: i64, cost: i64, arcs: &[u8]) -> Result<WeighedCircuit, Fail> {
+    let mut places = [0; 32];
+    places
+        .get_mut(..arcs.len())
+        .ok_or("too many arcs")?
+        .copy_from_slice(arcs);
     let circuit = Circuit {
-        arcs: ArrayVec::try_from(arcs)?,
+        arcs: places,
+        len: arcs.len(),
     };
     Ok(WeighedCircuit {
         gain,
@@ -67,6 +72,16 @@ fn gaining_circuit_of_board_b(rt: HostRuntime) -> Result<(), Fail> {
         board_b()?.potentials(3399),
         Err(weighed(3400, 1, &[0, 3])?)
     );
+    Ok(())
+}
+
+#[test]
+fn what_stands_behind_the_numbers_does_not_count(rt: HostRuntime) -> Result<(), Fail> {
+    let shown = largest_of(&board_b()?)?.circuit;
+    let mut other = shown;
+    other.arcs[2] = 7;
+    assert_eq!(rt; other, shown);
+    assert_eq!(rt; other.numbers(), [0, 3].as_slice());
     Ok(())
 }
 

@@ -32,8 +32,8 @@ rising-preserved c =
     let fits = own_fair A x small some better.own in
     (better.own, back x.gain fits.gain_small, back x.cost (omega (arith, fits.cost_small)), some)
 
-pub returns : goal.returns
-returns c =
+pub returns-in_default : goal.returns-in_default
+returns-in_default c =
     let net = c.args.self.now in
     let A = arcs_of net in
     let s = rw c.in_default.is at c.search_against.ensures in

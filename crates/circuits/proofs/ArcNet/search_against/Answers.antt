@@ -3,7 +3,7 @@ use Rattle.std.specs.List.{All}
 use Rattle.std.proofs.ByRecursion.{All-get_or}
 use Rattle.std.proofs.lemmas.List.{take_all}
 use Rattle.circuits.specs.declared.Arc.{Arc}
-use Rattle.circuits.specs.declared.Circuit.{Circuit}
+use Rattle.circuits.specs.declared.numbers.Circuit.{Circuit}
 use Rattle.circuits.specs.declared.WeighedCircuit.{WeighedCircuit}
 use Rattle.circuits.specs.Arcs.{CircuitOf, numbers_of}
 use Rattle.circuits.specs.Holding.{arcs_of}

@@ -1,6 +1,6 @@
 use Rattle.std.proofs.Common.{◌≡◌, ℕ, ℤ, ◌≤◌, ◌*◌, take, nat_abs}
 use Rattle.circuits.specs.Arcs.{sum}
-use Rattle.circuits.proofs.Circuit.sum_along.Given as goal
+use Rattle.circuits.proofs.numbers.Circuit.sum_along.Given as goal
 
 abbrev pub invariant-loop-arc : goal.invariant-loop-arc
 invariant-loop-arc g l = record {
