@@ -1,11 +1,13 @@
 // The board's faults.
-ghost use Rattle.std.specs.Prelude.{◌≡◌};
+ghost use Rattle.std.specs.Prelude.{◌≡◌, ◌==◌};
+ghost use Rattle.std.specs.Cmp.Rules.{comparing};
+ghost use Rattle.std.proofs.Common.{rules};
 ghost use Rattle.board.specs.Faults.{board_report};
 
 use faults::{Layer, Report};
 
 // Why a board refuses a call, with the number of the fault.
-#[derive(Clone, Copy, PartialEq, Eq, Debug)]
+#[derive(Clone, Copy, Eq, Debug)]
 pub enum BoardFault {
     // another call than opening or loading, on a new board
     New = 1,
@@ -41,6 +43,17 @@ pub enum BoardFault {
     Ticket = 16,
     // a list has the wrong length
     Length = 18,
+}
+
+// Two faults are equal exactly when their numbers are. It is not derived, so that the promise speaks of the numbers, and a mistake in it has a place.
+impl PartialEq for BoardFault {
+    ghost eq = { λ x y. ((board_report x).number == (board_report y).number) };
+
+    ghost laws = { Prim.search (comparing, rules) };
+
+    fn eq(&self, other: &BoardFault) -> bool {
+        *self as u8 == *other as u8
+    }
 }
 
 // The fault's layer, number and place.

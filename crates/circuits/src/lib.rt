@@ -1,7 +1,7 @@
 // Gaining circuits, potentials, and the circuit of the extreme ratio, of a small net of arcs with a gain and a cost each.
 #![tactic(auto)]
 
-ghost use Rattle.std.specs.Prelude.{◌≡◌, true};
+ghost use Rattle.std.specs.Prelude.{◌≡◌, ◌≤◌, true, length};
 ghost use Rattle.runs.specs.Tables.{in_range, every};
 ghost use Rattle.circuits.specs.Arcs.{arc_in_range};
 
@@ -56,5 +56,6 @@ pub struct ArcNet {
     events: u8,
     arcs: ArrayVec<Arc, MOST_ARCS>,
     ghost size: { in_range events ≡ true },
+    ghost few: { length arcs.items ≤ 128 },
     ghost ranges: { every (arc_in_range events) arcs.items ≡ true },
 }

@@ -9,31 +9,40 @@ use std::alloc::{AllocError, Global};
 use std::io;
 use std::io::Read;
 
-// A script: the calls of the first planner, those of the one who takes over, where one does, and what each line prints: its own text, or none
-// where it prints the reply to its call. `Session::perform` takes a planner's calls as one slice, so what stands between them is a list beside.
+// What a line of the script prints: the reply to its call, that the second planner takes over, or that it is unknown. The cases have no
+// fields, so that a line wants one byte: a text beside each line would want 24.
+#[derive(Clone, Copy)]
+enum Printed {
+    Reply,
+    Takeover,
+    Unknown,
+}
+
+// A script: the calls of the first planner, those of the one who takes over, where one does, and what each line prints. `Session::perform` takes
+// a planner's calls as one slice, so what stands between them is a list beside.
 #[derive(Drop)]
 struct Script {
     first: Vec<Call>,
     second: Option<Vec<Call>>,
-    texts: Vec<Option<&'static str>>,
+    printed: Vec<Printed>,
 }
 
 impl Script {
     // Takes up one line. There is one takeover at most: a second one is unknown.
     fn take(&mut self, heap: Global, line: Line) -> Result<(), AllocError> {
-        let text = match line {
+        let printed = match line {
             Line::Silent => return Ok(()),
             Line::Takeover if self.second.is_none() => {
                 self.second = Some(Vec::new(heap));
-                Some("takeover")
+                Printed::Takeover
             }
-            Line::Takeover | Line::Unknown => Some("unknown"),
+            Line::Takeover | Line::Unknown => Printed::Unknown,
             Line::Call(call) => {
                 self.second.as_mut().unwrap_or(&mut self.first).push(call)?;
-                None
+                Printed::Reply
             }
         };
-        self.texts.push(text)?;
+        self.printed.push(printed)?;
         Ok(())
     }
 
@@ -42,7 +51,7 @@ impl Script {
         let mut script = Script {
             first: Vec::new(heap),
             second: None,
-            texts: Vec::new(heap),
+            printed: Vec::new(heap),
         };
         let mut rest = text;
         while let Some((line, behind)) = next_line(rest) {
@@ -53,14 +62,18 @@ impl Script {
     }
 }
 
-// Prints what each line of the script prints, in order: its own text, or the next reply.
-fn print_replies(rt: &HostRuntime, texts: &[Option<&str>], replies: &[Reply]) -> io::Result<()> {
+// Prints what each line of the script prints, in order.
+fn print_replies(rt: &HostRuntime, printed: &[Printed], replies: &[Reply]) -> io::Result<()> {
     let mut replies = replies.iter();
-    for text in texts {
-        if let Some(text) = text {
-            println!(rt; "{text}")?;
-        } else if let Some(reply) = replies.next() {
-            println!(rt; "{reply}")?;
+    for line in printed {
+        match line {
+            Printed::Takeover => println!(rt; "takeover")?,
+            Printed::Unknown => println!(rt; "unknown")?,
+            Printed::Reply => {
+                if let Some(reply) = replies.next() {
+                    println!(rt; "{reply}")?;
+                }
+            }
         }
     }
     Ok(())
@@ -81,7 +94,7 @@ fn run(rt: &HostRuntime, session: &mut Session, script: &Script) -> io::Result<(
     if let Some(second) = &script.second {
         session.perform(second, &mut replies)?;
     }
-    print_replies(rt, &script.texts, &replies)?;
+    print_replies(rt, &script.printed, &replies)?;
     print_closing(rt, session)
 }
 

@@ -1,5 +1,5 @@
 -- The loop over the links that lets a round arrive: what is still to come is the choice over the links not yet seen.
-use Rattle.std.proofs.Common.{◌≡◌, ℕ, ◌+◌, ◌-◌, ◌<◌, ◌≤◌, cond, eqb, List, [], ◌∷◌, length, get_or, drop, set, sym, refl, ap, ◌∙◌, subst, arith, eq-eqb, ne_eqb}
+use Rattle.std.proofs.Common.{◌≡◌, ℕ, ◌+◌, ◌-◌, ◌<◌, ◌≤◌, true, cond, eqb, List, [], ◌∷◌, length, get_or, drop, set, sym, refl, ap, ◌∙◌, subst, arith, eq-eqb, ne_eqb}
 use native.Mathlib.Decide.{ℕ_discrete}
 use Rattle.std.specs.List.{range_with_len, AllByRecursion}
 use Rattle.std.proofs.lemmas.List.FromFn.{length-range_with_len, get_or-range_with_len}
@@ -94,6 +94,18 @@ module _ (K : Kind) (L : Laws K) {X : Type 0} (m : X → K.carrier) (n : ℕ) (l
       link_more K L ls w x j k (at K m row j) (at K m (set row to new) j) tl.inside
       (λ e. subst (λ y. at K m (set row to new) y ≡ K.choice (at K m row y) (K.chaining (x (get_or ls k no_link).from) (w k))) (to_k ∙ e) (here ∙ ap (λ f. K.choice (at K m row to) (K.chaining (x f) (w k))) from_k))
       (λ ne. at_set_other K m row to j new (λ e. ne (sym to_k ∙ sym e)))
+
+  -- a turn that passes a link whose first event nothing reaches: none chained with the link is none, and adds nothing
+  pub nothing_step : (k from : ℕ) (link : Link) (back none : X) {links : List Link} → Comes ls links k link → from ≡ link.from → back ≡ get_or before from back → m none ≡ K.none → K.equal (m back) (m none) ≡ true
+      → (j : ℕ) (b : K.carrier) → with_rest K ls (at K m ws) (at K m before) j (k + 1) b ≡ with_rest K ls (at K m ws) (at K m before) j k b
+  nothing_step k from link back none tl from_is back_is none_is same j b =
+      let w : ℕ → K.carrier = at K m ws in
+      let x : ℕ → K.carrier = at K m before in
+      let start : from < length before = omega (arith, (ends_below n ls _ k link fit.within tl).0) in
+      let from_k : from ≡ (get_or ls k no_link).from = from_is ∙ ap (λ l. l.from) (tl.is no_link) in
+      let nothing : x from ≡ K.none = at_read K m before from back start back_is ∙ (L.equal_says (m back) (m none)).0 same ∙ none_is in
+      let adds : K.chaining (x (get_or ls k no_link).from) (w k) ≡ K.none = ap (λ f. K.chaining (x f) (w k)) (sym from_k) ∙ ap (λ y. K.chaining y (w k)) nothing ∙ L.none_left (w k) in
+      link_more K L ls w x j k b b tl.inside (λ e. sym (ap (K.choice b) adds ∙ L.choice_none b)) (λ ne. refl)
 
   -- a turn of the loop that chooses over the links to j
   pub choice_step : (j k from : ℕ) (link : Link) (best weight back : X) (new : K.carrier) {links : List Link} {weights : List X} → Comes ls links k link → Comes ws weights k weight → link.to ≡ j → from ≡ link.from

@@ -81,15 +81,19 @@ struct Reached<'a, W: Weight> {
 
 impl<'a, W: Weight> Reached<'a, W> {
     // Chooses, at the second event of each link, between the cell in the row and what reaches its first event, chained with the
-    // link.
+    // link. Where nothing reaches it the link brings nothing, and is passed: mostly few events of a net are reached.
     #[tactic(auto, using(crate::proofs::Turns::link_ends))]
     fn extend(&self, row: &mut [W])
         requires { length row.old ≡ self.now.net.now.events }
         ensures { (j : ℕ) → j < self.now.net.now.events → at W.kind W.meaning row.new j ≡ W.kind.choice (at W.kind W.meaning row.old j) (arrive W.kind (net_of self.now.net.now.links.now) (at W.kind W.meaning self.now.net.now.weights.now) (at W.kind W.meaning self.now.weights.now) j (net_of self.now.net.now.links.now).links) }
     {
         for (link, weight) in self.net.links.iter().zip(self.net.weights) {
+            let reaching = self.weights[usize::from(link.from)];
+            if reaching.same(W::none()) {
+                continue;
+            }
             let to = usize::from(link.to);
-            row[to] = row[to].choose(chained(self.weights[usize::from(link.from)], *weight));
+            row[to] = row[to].choose(chained(reaching, *weight));
         }
     }
 

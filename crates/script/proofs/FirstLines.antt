@@ -1,7 +1,8 @@
 -- A script cut behind its first line.
 use Rattle.std.proofs.lemmas.Bool.Decides.{nat_tests}
-use Rattle.std.proofs.Common.{◌≡◌, ℕ, suc, ◌+◌, ◌<◌, List, [], ◌∷◌, length, take, drop, Some, None, sym, ap, ◌∙◌, ⊎_elim, one-add, arith}
+use Rattle.std.proofs.Common.{◌≡◌, ℕ, suc, ◌+◌, ◌<◌, ◌≤◌, Bool, true, false, get_or, List, [], ◌∷◌, length, take, drop, Some, None, sym, ap, ◌∙◌, ⊎_elim, one-add, arith}
 use Rattle.std.proofs.lemmas.List.{drop_all, take_all, drop-drop}
+use Rattle.std.proofs.lemmas.List.Sums.{position_or_len_is}
 use Rattle.std.proofs.lemmas.Bool.{cases_Bool, cond-true, cond-false, not_from_true, not_from_false}
 use Rattle.std.specs.List.{position, position_or_len}
 use Rattle.script.specs.Words.{onto_first}
@@ -34,3 +35,11 @@ cut_line script n some found = let whole = first script some in let behind = dro
 
 pub cut_last_line : (script : List ℕ) → 0 < length script → position ends_line script ≡ None → script ∷ [] ≡ lines script
 cut_last_line script some none = let whole = first script some in let front = take_all (position_or_len ends_line script) script in let back = drop_all (position_or_len ends_line script) script in grind (arith, nat_tests)
+
+-- the first that passes stands where all before it fail and it passes
+pub first_passing : (passes : ℕ → Bool) (bytes : List ℕ) (i : ℕ) → i < length bytes → ((k : ℕ) → k < i → passes (get_or bytes k 0) ≡ false) → passes (get_or bytes i 0) ≡ true → Some i ≡ position passes bytes
+first_passing passes bytes i h before here = let at = position_or_len_is passes bytes i 0 (omega arith) before (λ l. here) in grind (arith, nat_tests)
+
+-- where all fail, none does
+pub none_passing : (passes : ℕ → Bool) (bytes : List ℕ) (i : ℕ) → length bytes ≤ i → ((k : ℕ) → k < i → passes (get_or bytes k 0) ≡ false) → None ≡ position passes bytes
+none_passing passes bytes i h before = let at = position_or_len_is passes bytes (length bytes) 0 (omega arith) (λ k l. before k (omega arith)) (λ l. absurd (omega arith)) in grind (arith, nat_tests)

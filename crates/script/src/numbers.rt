@@ -7,7 +7,6 @@ ghost use Rattle.script.specs.Forms.{largest_8, largest_16, largest_32, one_numb
 
 use crate::words::Words;
 use std::alloc::{AllocError, Global};
-use std::str;
 
 // A number of a size: of 8, 16 or 32 bits.
 pub trait Number: Sized {
@@ -16,6 +15,10 @@ pub trait Number: Sized {
 
     // The number that a value is.
     ghost value: { Self → ℕ };
+
+    // The largest number of this size, as a number of 32 bits.
+    fn limit() -> u32
+        ensures { result ≡ largest };
 
     // A number of 32 bits as one of this size, unless it is too large. A bound `TryFrom<u32>` would say nothing of the result at a size that is
     // not known: this clause would stand beside it as a law, with a proof for each size.
@@ -33,6 +36,10 @@ impl Number for u8 {
 
     ghost fits = { Prim.search rules };
 
+    fn limit() -> u32 {
+        u32::from(u8::MAX)
+    }
+
     fn of_number(number: u32) -> Option<u8> {
         u8::try_from(number).ok()
     }
@@ -44,6 +51,10 @@ impl Number for u16 {
     ghost value = { λ number. number };
 
     ghost fits = { Prim.search rules };
+
+    fn limit() -> u32 {
+        u32::from(u16::MAX)
+    }
 
     fn of_number(number: u32) -> Option<u16> {
         u16::try_from(number).ok()
@@ -57,26 +68,41 @@ impl Number for u32 {
 
     ghost fits = { Prim.search rules };
 
+    fn limit() -> u32 {
+        u32::MAX
+    }
+
     fn of_number(number: u32) -> Option<u32> {
         Some(number)
     }
 }
 
-// The number of 32 bits that a word spells in decimal. A plus in front, which `parse` allows, is none of its digits.
-fn decimal(word: &[u8]) -> Option<u32>
-    ensures { result ≡ number_in largest_32 word.now }
+// The number that a word spells in decimal, if it is at most the limit. One pass over the word, which ends at the first byte that is no digit
+// or passes the limit: `parse` takes a text, so that the whole word would be looked through for UTF-8 before.
+fn decimal(word: &[u8], limit: u32) -> Option<u32>
+    ensures { result ≡ number_in limit word.now }
 {
-    if word.starts_with(b"+") {
+    if word.is_empty() {
         return None;
     }
-    str::from_utf8(word).ok()?.parse().ok()
+    let mut number: u64 = 0;
+    for byte in word {
+        if !byte.is_ascii_digit() {
+            return None;
+        }
+        number = number * 10 + u64::from(*byte - b'0');
+        if number > u64::from(limit) {
+            return None;
+        }
+    }
+    u32::try_from(number).ok()
 }
 
 // The number of a size that a word spells in decimal.
 fn number_in<N: Number>(word: &[u8]) -> Option<N>
     ensures { option_map N.value result ≡ number_in N.largest word.now }
 {
-    N::of_number(decimal(word)?)
+    N::of_number(decimal(word, N::limit())?)
 }
 
 impl<'a> Words<'a> {
@@ -109,7 +135,7 @@ impl<'a> Words<'a> {
     {
         let mut numbers = Vec::new(heap);
         for word in self.by_ref() {
-            let Some(number) = decimal(word) else {
+            let Some(number) = decimal(word, u32::MAX) else {
                 return Ok(None);
             };
             numbers.push(number)?;
