@@ -284,9 +284,9 @@ impl ConstraintTable {
         ensures rows { self.new.rows.items ≡ changed (moved event) self.old.rows.items number }
         ensures capacity { vec_capacity self.new.rows ≡ vec_capacity self.old.rows }
     {
-        let Some(constraint) = self.rows.get_mut(number) else {
+        let Some(row) = self.rows.get_mut(number) else {
             return false;
         };
-        constraint.change(event)
+        row.change(event)
     }
 }
