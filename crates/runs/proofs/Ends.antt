@@ -32,7 +32,7 @@ module _ (K : Kind) (L : Laws K) (net : Net) (w : ℕ → K.carrier) where
       ∙ ap (K.choice (K.choice (cond t u K.none) (cond t v K.none))) (extend_choice x y i ls)
       ∙ crossed (cond t u K.none) (cond t v K.none) (extend K net w x i ls) (extend K net w y i ls)
 
-  arrive_choice : (x y : ℕ → K.carrier) (j : ℕ) (ls : List ℕ) → arrive K net w (λ e. K.choice (x e) (y e)) j ls ≡ K.choice (arrive K net w x j ls) (arrive K net w y j ls)
+  pub arrive_choice : (x y : ℕ → K.carrier) (j : ℕ) (ls : List ℕ) → arrive K net w (λ e. K.choice (x e) (y e)) j ls ≡ K.choice (arrive K net w x j ls) (arrive K net w y j ls)
   arrive_choice x y j [] = sym (L.choice_none K.none)
   arrive_choice x y j (l ∷ ls) =
       let t : Bool = eqb (net.to l) j in

@@ -6,9 +6,11 @@ pub mod Cutting
 pub mod Cells
 pub mod Ends
 pub mod Rows
+pub mod Rounds
 pub mod Turns
 pub mod Theorem
 pub mod Columns
+pub mod Departing
 pub mod Extending
 pub mod Searches
 pub mod Tables

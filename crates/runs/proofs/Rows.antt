@@ -1,12 +1,13 @@
 -- A row of cells by rounds: a round makes the row of k + 1 of that of k, and one that changes nothing is the last that could.
 use Rattle.std.proofs.Common.{◌≡◌, ℕ, zero, suc, ◌+◌, ◌-◌, ◌<◌, ◌≤◌, sym, refl, ap, ◌∙◌, add-one, arith}
 use Rattle.weights.specs.Kinds.{Kind, Laws, Idempotent, gains}
-use Rattle.runs.specs.Nets.{Net, Within}
+use Rattle.runs.specs.Nets.{Net, In, Within}
 use Rattle.runs.specs.Runs.{closed_runs, choice_over, cell}
 use Rattle.runs.specs.Gaining.{some_gains}
-use Rattle.runs.specs.Rounds.{seed, arrive}
+use Rattle.runs.specs.Rounds.{seed, arrive, Brought}
 use Rattle.runs.proofs.Cells.{cell_suc, closed_is}
 use Rattle.runs.proofs.Ends.{arrive_same, both_ends}
+use Rattle.runs.proofs.Rounds.{cell_on, brought_before}
 use Rattle.runs.proofs.Theorem.{gains_over}
 
 module _ (K : Kind) (L : Laws K) (net : Net) (w : ℕ → K.carrier) (n : ℕ) (b : Within n net) where
@@ -24,10 +25,21 @@ module _ (K : Kind) (L : Laws K) (net : Net) (w : ℕ → K.carrier) (n : ℕ) (
   round_closed : (k j : ℕ) (x : ℕ → K.carrier) → IsRow k j x → arrive K net w x j net.links ≡ choice_over K w (closed_runs net k j)
   round_closed k j x is = arrive_same K L net w x (cell K net w k j) j net.links (λ l h. is (net.from l) (b l h).0) ∙ sym (both_ends K L net w k j j) ∙ sym (closed_is K L net w k j)
 
-  -- the row that a round makes: first what the empty run gives, then each link
-  pub next_row : (k i : ℕ) (x seeded extended : ℕ → K.carrier) → IsRow k i x → ((j : ℕ) → j < n → seeded j ≡ seed K i j)
-      → ((j : ℕ) → j < n → extended j ≡ K.choice (seeded j) (arrive K net w x j net.links)) → IsRow (k + 1) i extended
-  next_row k i x seeded extended is first then j h = then j h ∙ ap (λ y. K.choice y (arrive K net w x j net.links)) (first j h) ∙ round_cell k i x is j
+  -- the row that a round makes of the one before
+  pub next_row : Idempotent K → (k i : ℕ) (x row extended : ℕ → K.carrier) → 0 < k → IsRow k i x → IsRow k i row → ((j : ℕ) → extended j ≡ K.choice (row j) (arrive K net w x j net.links)) → IsRow (k + 1) i extended
+  next_row I k i x row extended some is is' then j h =
+      then j ∙ ap (λ y. K.choice y (arrive K net w x j net.links)) (is' j h)
+      ∙ ap (K.choice (cell K net w k i j)) (arrive_same K L net w x (cell K net w k i) j net.links (λ l m. is (net.from l) (b l m).0))
+      ∙ cell_on K L I net w k i j some
+
+  -- what a link brings from an event whose cell the round before left
+  pub brought_row : Idempotent K → (k i l : ℕ) (x row : ℕ → K.carrier) → 0 < k → IsRow k i x → IsRow k i row → In l net.links → cell K net w k i (net.from l) ≡ cell K net w (k - 1) i (net.from l) → Brought K net w x row l
+  brought_row I k i l x row some is is' m old =
+      let ends = b l m in
+      ap (λ y. K.choice (K.chaining y (w l)) (row (net.to l))) (is (net.from l) ends.0)
+      ∙ ap (K.choice (K.chaining (cell K net w k i (net.from l)) (w l))) (is' (net.to l) ends.1)
+      ∙ brought_before K L I net w k i l some m old
+      ∙ sym (is' (net.to l) ends.1)
 
   -- a round that changes nothing leaves nothing to change
   settled : (k i : ℕ) → ((e : ℕ) → e < n → cell K net w (k + 1) i e ≡ cell K net w k i e) → (d e : ℕ) → e < n → cell K net w (d + k) i e ≡ cell K net w k i e

@@ -1,11 +1,12 @@
 // The rows of a table of runs over a net whose links have weights, round by round.
-ghost use Rattle.std.specs.Prelude.{◌≡◌, ℕ, ◌+◌, ◌*◌, ◌<◌, ◌≤◌, length, None, Decides};
+ghost use Rattle.std.specs.Prelude.{◌≡◌, ◌≢◌, ℕ, ◌+◌, ◌*◌, ◌<◌, ◌≤◌, ◌==◌, length, None};
+ghost use Rattle.std.specs.Int.{bit_at};
 ghost use Rattle.std.specs.List.{AllByRecursion};
 ghost use Rattle.weights.specs.Kinds.{gains};
 ghost use Rattle.runs.specs.Runs.{cell};
 ghost use Rattle.runs.specs.Gaining.{gaining_event};
 ghost use Rattle.runs.specs.Links.{net_of, at};
-ghost use Rattle.runs.specs.Rounds.{seed, arrive, Fit};
+ghost use Rattle.runs.specs.Rounds.{seed, arrive, Fit, Brought, Grown, Departing};
 ghost use Rattle.std.proofs.Props.{props};
 
 use crate::Link;
@@ -52,12 +53,68 @@ fn seed_row<W: Weight>(i: usize, row: &mut [W])
     }
 }
 
-// Whether a row is what it was a round ago.
-fn is_settled<W: Weight>(row: &[W], before: &[W]) -> bool
-    requires { length row.now ≡ length before.now }
-    ensures { Decides result ((j : ℕ) → j < length row.now → at W.kind W.meaning row.now j ≡ at W.kind W.meaning before.now j) }
-{
-    row.iter().zip(before).all(|(new, old)| new.same(*old))
+// A set of events below 32, a bit for each.
+#[derive(Clone, Copy)]
+struct Events(u32);
+
+impl Events {
+    // The set of one event alone, which is empty where that isn't below 32.
+    fn only(event: usize) -> Events
+        ensures added { event < 32 → bit_at result.0 event ≡ 1 }
+        ensures others { (e : ℕ) → e ≢ event → bit_at result.0 e ≡ 0 }
+    {
+        if event < 32 {
+            Events(1 << event)
+        } else {
+            Events(0)
+        }
+    }
+
+    fn is_empty(self) -> bool
+        ensures { result ≡ (self.0 == 0) }
+    {
+        self.0 == 0
+    }
+
+    fn has(self, event: usize) -> bool
+        requires { event < 32 }
+        ensures { result ≡ (bit_at self.0 event == 1) }
+    {
+        self.0 >> event & 1 == 1
+    }
+
+    fn add(&mut self, event: usize)
+        requires { event < 32 }
+        ensures added { bit_at self.new.0 event ≡ 1 }
+        ensures others { (e : ℕ) → e ≢ event → bit_at self.new.0 e ≡ bit_at self.old.0 e }
+    {
+        self.0 |= 1 << event;
+    }
+}
+
+// The links of a net from each event, last first. A link goes by its number plus one, and 0 stands for none: `last` holds the last link
+// from each event, and `earlier` the one before each link from the same event.
+#[derive(Drop)]
+pub(crate) struct Departures {
+    last: [usize; 32],
+    earlier: [usize; 128],
+}
+
+impl Departures {
+    pub(crate) fn of(links: &[Link]) -> Departures
+        requires few { length links.now ≤ 128 }
+        requires within { AllByRecursion (λ l. l.from < 32) links.now }
+        ensures { Departing links.now result.last result.earlier }
+    {
+        let mut last = [0; 32];
+        let mut earlier = [0; 128];
+        for (number, link) in links.iter().enumerate() {
+            let from = usize::from(link.from);
+            earlier[number] = last[from];
+            last[from] = number + 1;
+        }
+        Departures { last, earlier }
+    }
 }
 
 // Links between events, with a weight of span at most 1 for each.
@@ -66,7 +123,9 @@ pub(crate) struct WeightedNet<'a, W: Weight> {
     pub(crate) events: usize,
     pub(crate) links: &'a [Link],
     pub(crate) weights: &'a [W],
+    pub(crate) departures: Departures,
     ghost few: { events ≤ 32 },
+    ghost departing: { Departing links.now departures.last departures.earlier },
     ghost fit: { Fit W.kind W.meaning events links.now weights.now } by { Prim.hlevel props },
 }
 
@@ -80,21 +139,44 @@ struct Reached<'a, W: Weight> {
 }
 
 impl<'a, W: Weight> Reached<'a, W> {
-    // Chooses, at the second event of each link, between the cell in the row and what reaches its first event, chained with the
-    // link. Where nothing reaches it the link brings nothing, and is passed: mostly few events of a net are reached.
-    #[tactic(auto, using(crate::proofs::Turns::link_ends))]
-    fn extend(&self, row: &mut [W])
-        requires { length row.old ≡ self.now.net.now.events }
-        ensures { (j : ℕ) → j < self.now.net.now.events → at W.kind W.meaning row.new j ≡ W.kind.choice (at W.kind W.meaning row.old j) (arrive W.kind (net_of self.now.net.now.links.now) (at W.kind W.meaning self.now.net.now.weights.now) (at W.kind W.meaning self.now.weights.now) j (net_of self.now.net.now.links.now).links) }
+    // Chooses, at the second event of each link from `from`, between the cell in the row and what reaches `from`, chained with the
+    // link, and adds the events whose cells change.
+    fn extend_from(&self, from: usize, row: &mut [W], changed: &mut Events)
+        requires inside { from < self.now.net.now.events }
+        requires side { length row.old ≡ self.now.net.now.events }
+        ensures grown { Grown W.kind (net_of self.now.net.now.links.now) (at W.kind W.meaning self.now.net.now.weights.now) (at W.kind W.meaning self.now.weights.now) (at W.kind W.meaning row.old) (at W.kind W.meaning row.new) }
+        ensures brought { (l : ℕ) → l < length self.now.net.now.links.now → (net_of self.now.net.now.links.now).from l ≡ from → Brought W.kind (net_of self.now.net.now.links.now) (at W.kind W.meaning self.now.net.now.weights.now) (at W.kind W.meaning self.now.weights.now) (at W.kind W.meaning row.new) l }
+        ensures kept { (j : ℕ) → bit_at changed.new.0 j ≡ 0 → (bit_at changed.old.0 j ≡ 0) × (at W.kind W.meaning row.new j ≡ at W.kind W.meaning row.old j) }
     {
-        for (link, weight) in self.net.links.iter().zip(self.net.weights) {
-            let reaching = self.weights[usize::from(link.from)];
-            if reaching.same(W::none()) {
-                continue;
+        let reaching = self.weights[from];
+        let mut next = self.net.departures.last[from];
+        while next > 0 {
+            let number = next - 1;
+            let to = usize::from(self.net.links[number].to);
+            let chosen = row[to].choose(chained(reaching, self.net.weights[number]));
+            if !chosen.same(row[to]) {
+                row[to] = chosen;
+                changed.add(to);
             }
-            let to = usize::from(link.to);
-            row[to] = row[to].choose(chained(reaching, *weight));
+            next = self.net.departures.earlier[number];
         }
+    }
+
+    // Chooses, at the second event of each link, between the cell in the row and what reaches its first event, chained with the
+    // link, and tells which cells changed. Only the links from the events of `recent` are gone over: what any other brings was chosen before.
+    fn extend(&self, row: &mut [W], recent: Events) -> Events
+        requires side { length row.old ≡ self.now.net.now.events }
+        requires brought { (l : ℕ) → l < length self.now.net.now.links.now → bit_at recent.0 ((net_of self.now.net.now.links.now).from l) ≡ 0 → Brought W.kind (net_of self.now.net.now.links.now) (at W.kind W.meaning self.now.net.now.weights.now) (at W.kind W.meaning self.now.weights.now) (at W.kind W.meaning row.old) l }
+        ensures row { (j : ℕ) → at W.kind W.meaning row.new j ≡ W.kind.choice (at W.kind W.meaning row.old j) (arrive W.kind (net_of self.now.net.now.links.now) (at W.kind W.meaning self.now.net.now.weights.now) (at W.kind W.meaning self.now.weights.now) j (net_of self.now.net.now.links.now).links) }
+        ensures kept { (j : ℕ) → bit_at result.0 j ≡ 0 → at W.kind W.meaning row.new j ≡ at W.kind W.meaning row.old j }
+    {
+        let mut changed = Events(0);
+        for from in 0..self.net.events {
+            if recent.has(from) {
+                self.extend_from(from, row, &mut changed);
+            }
+        }
+        changed
     }
 
     // The choice over the links to `j`, each chained behind what reaches its first event. In a fold, a closure would have to justify the
@@ -122,15 +204,16 @@ impl<'a, W: Weight> WeightedNet<'a, W> {
         ensures row { (j : ℕ) → j < self.now.events → at W.kind W.meaning row.new j ≡ cell W.kind (net_of self.now.links.now) (at W.kind W.meaning self.now.weights.now) self.now.events i j }
         ensures before { (j : ℕ) → j < self.now.events → at W.kind W.meaning before.new j ≡ cell W.kind (net_of self.now.links.now) (at W.kind W.meaning self.now.weights.now) self.now.events i j }
     {
-        clear(before);
-        for _ in 0..self.events {
-            seed_row(i, row);
+        seed_row(i, row);
+        before.copy_from_slice(row);
+        let mut recent = Events::only(i);
+        for _ in 1..self.events {
             let reached = Reached {
                 net: &*self,
                 weights: before,
             };
-            reached.extend(row);
-            if is_settled(row, before) {
+            recent = reached.extend(row, recent);
+            if recent.is_empty() {
                 return;
             }
             before.copy_from_slice(row);

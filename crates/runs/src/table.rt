@@ -5,7 +5,7 @@ ghost use Rattle.runs.specs.Gaining.{gaining_event};
 ghost use Rattle.runs.specs.Tables.{link_below, events_below, spans_at_most_one, early_fault, gain_fault, table_fault, Tabled, TableLaw};
 ghost use Rattle.runs.specs.Links.{net_of, at};
 
-use crate::net::{WeightedNet, clear};
+use crate::net::{Departures, WeightedNet, clear};
 use crate::{Link, TableFault};
 use weights::Weight;
 
@@ -109,6 +109,7 @@ pub fn table_of_runs<W: Weight>(
         events: n,
         links,
         weights,
+        departures: Departures::of(links),
     };
     fill_table(&net, cells, spare)
 }

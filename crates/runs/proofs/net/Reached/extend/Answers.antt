@@ -1,50 +1,65 @@
-use Rattle.std.proofs.Common.{◌≡◌, ◌+◌, ◌≤◌, [], ◌∷◌, ◌++◌, length, drop, set, sym, ap, ◌∙◌, arith, length-append, inl, inr, ⊎_elim}
-use Rattle.runs.specs.Links.{at}
-use Rattle.runs.proofs.Extending.{with_rest, rest_all, row_step, nothing_step}
-use Rattle.runs.proofs.Turns.{comes, ended}
+use Rattle.std.proofs.Common.{◌≡◌, ℕ, ◌<◌, length, sym, refl, ap, ◌∙◌, subst, arith, eq-eqb}
+use native.Mathlib.Decide.{ℕ_discrete}
+use borrow.Author.Tests.{clash}
+use Rattle.std.specs.Int.{bit_at}
+use Rattle.std.proofs.lemmas.Nat.Bits.{bit_at-lt}
+use Rattle.runs.specs.Links.{net_of, at}
+use Rattle.runs.specs.Rounds.{Brought, Grown}
+use Rattle.runs.proofs.Extending.{net_within}
+use Rattle.runs.proofs.Members.{in_counting}
+use Rattle.runs.proofs.Rounds.{grown_none, grown_on, brought_on, round_done}
 use Rattle.runs.proofs.net.Reached.extend.Goals as goal
+use Rattle.runs.proofs.net.Reached.extend.Goals.{then-has, else-has}
 
-pub loop-link-preserved : goal.loop-link-preserved
-loop-link-preserved g c =
+pub loop-from-init : goal.loop-from-init
+loop-from-init g c =
     let K = g.W.Weight.kind in
     let m = g.W.Weight.meaning in
     let net = c.args.self.now.net.now in
-    let before = c.args.self.now.weights.now in
-    let k = length c.loop-link.yielded in
-    let more : length (c.loop-link.yielded ++ (c.in-Some.link, c.in-Some.weight) ∷ []) ≡ k + 1 = length-append c.loop-link.yielded _ in
-    let tl = comes net.links.now _ k c.in-Some.link.now (sym c.loop-link.invariant.links ∙ c.in-Some.ensures.steps.0) in
-    let tw = comes net.weights.now _ k c.in-Some.weight.now (sym c.loop-link.invariant.weights ∙ c.in-Some.ensures.steps.1) in
     record {
-      can = (tt, tt);
-      finite = tt;
-      links = tl.after ∙ ap (λ z. drop z net.links.now) (sym more);
-      weights = tw.after ∙ ap (λ z. drop z net.weights.now) (sym more);
-      chosen = λ j h. ap (λ z. with_rest K net.links.now (at K m net.weights.now) (at K m before) j z (at K m (set c.loop-link.row c.from-to.result c.choose.result) j)) more
-          ∙ row_step K g.met.W.Weight.lawful m net.events net.links.now net.weights.now before net.fit c.args.self.now.side c.loop-link.row k c.from-to.result c.from.result c.in-Some.link.now
-          c.index-row-to.result c.in-Some.weight.now c.index-self-from.result c.choose.result tl tw (omega arith) (omega arith) (c.loop-link.auto.row ∙ c.requires) c.index-row-to.is c.index-self-from.is
-          (c.choose.ensures ∙ ap (K.choice (m c.index-row-to.result)) (c.chained.ensures ∙ ap (λ y. K.chaining (m y) (m c.in-Some.weight.now)) (sym c.index-self-from.is))) j
-          ∙ c.loop-link.invariant.chosen j h;
+      grown = grown_none K g.met.W.Weight.lawful g.met.W.Weight.idempotent (net_of net.links.now) (at K m net.weights.now) (at K m c.args.self.now.weights.now) (at K m c.args.row.now);
+      brought = λ k h less. absurd (omega arith);
+      kept = λ j zero. refl;
     }
 
-pub loop-link-preserved-then-same : goal.loop-link-preserved-then-same
-loop-link-preserved-then-same g c =
+pub loop-from-preserved : goal.loop-from-preserved
+loop-from-preserved g c =
     let K = g.W.Weight.kind in
     let m = g.W.Weight.meaning in
+    let L = g.met.W.Weight.lawful in
+    let I = g.met.W.Weight.idempotent in
     let net = c.args.self.now.net.now in
-    let before = c.args.self.now.weights.now in
-    let k = length c.loop-link.yielded in
-    let more : length (c.loop-link.yielded ++ (c.in-Some.link, c.in-Some.weight) ∷ []) ≡ k + 1 = length-append c.loop-link.yielded _ in
-    let tl = comes net.links.now _ k c.in-Some.link.now (sym c.loop-link.invariant.links ∙ c.in-Some.ensures.steps.0) in
-    let tw = comes net.weights.now _ k c.in-Some.weight.now (sym c.loop-link.invariant.weights ∙ c.in-Some.ensures.steps.1) in
+    let links = net_of net.links.now in
+    let w = at K m net.weights.now in
+    let x = at K m c.args.self.now.weights.now in
+    let f = c.loop-from.from in
+    let r = at K m c.loop-from.row in
+    let s = at K m c.if-has.row in
+    let grown : Grown K links w x r s = elim c.if-has.branch [
+      | then-has e ↦ subst (λ xs. Grown K links w x r (at K m xs)) (sym e.row-is) e.extend_from.ensures.grown
+      | else-has e ↦ subst (λ xs. Grown K links w x r (at K m xs)) (sym e.row-is) (grown_none K L I links w x r)
+    ] in
+    let here : (k : ℕ) → k < length net.links.now → links.from k ≡ f → Brought K links w x s k = elim c.if-has.branch [
+      | then-has e ↦ λ k h same. subst (λ xs. Brought K links w x (at K m xs) k) (sym e.row-is) (e.extend_from.ensures.brought k h same)
+      | else-has e ↦ λ k h same.
+          let zero : bit_at c.args.recent.0 f ≡ 0 = elim (ℕ_discrete (bit_at c.args.recent.0 f) 1) [
+            | yes one ↦ absurd (clash (sym e.if-has.false ∙ c.has.ensures ∙ eq-eqb (bit_at c.args.recent.0 f) 1 one))
+            | no ne ↦ omega (arith, ne, bit_at-lt c.args.recent.0 f)
+          ] in
+          let first : Brought K links w x (at K m c.args.row.now) k = c.requires.brought k h (ap (bit_at c.args.recent.0) same ∙ zero) in
+          brought_on K L I links w x (at K m c.args.row.now) s k (grown_on K L I links w x (at K m c.args.row.now) r s c.loop-from.invariant.grown grown) first
+    ] in
+    let kept : (j : ℕ) → bit_at c.if-has.changed.0 j ≡ 0 → (bit_at c.loop-from.changed.0 j ≡ 0) × (s j ≡ r j) = elim c.if-has.branch [
+      | then-has e ↦ λ j zero. let t = e.extend_from.ensures.kept j (ap (λ v. bit_at v.0 j) (sym e.changed-is) ∙ zero) in (t.0, ap (λ xs. at K m xs j) e.row-is ∙ t.1)
+      | else-has e ↦ λ j zero. (ap (λ v. bit_at v.0 j) (sym e.changed-is) ∙ zero, ap (λ xs. at K m xs j) e.row-is)
+    ] in
     record {
-      can = (tt, tt);
-      finite = tt;
-      links = tl.after ∙ ap (λ z. drop z net.links.now) (sym more);
-      weights = tw.after ∙ ap (λ z. drop z net.weights.now) (sym more);
-      chosen = λ j h. ap (λ z. with_rest K net.links.now (at K m net.weights.now) (at K m before) j z (at K m c.loop-link.row j)) more
-          ∙ nothing_step K g.met.W.Weight.lawful m net.events net.links.now net.weights.now before net.fit c.args.self.now.side k c.from.result c.in-Some.link.now
-          c.index-self-from.result c.none.result tl (omega arith) c.index-self-from.is c.none.ensures (ap (λ y. K.equal (m y) (m c.none.result)) c.index-self-from.is ∙ (sym c.same.ensures ∙ c.if-same.true)) j (at K m c.loop-link.row j)
-          ∙ c.loop-link.invariant.chosen j h;
+      grown = grown_on K L I links w x (at K m c.args.row.now) r s c.loop-from.invariant.grown grown;
+      brought = λ k h less. elim (ℕ_discrete (links.from k) f) [
+        | yes same ↦ here k h same
+        | no ne ↦ brought_on K L I links w x r s k grown (c.loop-from.invariant.brought k h (omega arith))
+      ];
+      kept = λ j zero. let now = kept j zero in now.1 ∙ c.loop-from.invariant.kept j now.0;
     }
 
 pub returns : goal.returns
@@ -52,6 +67,9 @@ returns g c =
     let K = g.W.Weight.kind in
     let m = g.W.Weight.meaning in
     let net = c.args.self.now.net.now in
-    let k = length c.loop-link.yielded in
-    let all : length net.links.now ≤ k = ended net.links.now net.weights.now _ _ k net.fit.paired c.loop-link.invariant.links c.loop-link.invariant.weights (⊎_elim (λ u. inl u.1.0) (λ u. inr u.1.0) c.in-None.ensures.steps) in
-    λ j h. sym (rest_all K g.met.W.Weight.lawful net.links.now (at K m net.weights.now) (at K m c.args.self.now.weights.now) j k (at K m c.loop-link.row j) all) ∙ c.loop-link.invariant.chosen j h
+    let links = net_of net.links.now in
+    record {
+      row = round_done K g.met.W.Weight.lawful g.met.W.Weight.idempotent links (at K m net.weights.now) (at K m c.args.self.now.weights.now) (at K m c.args.row.now) (at K m c.loop-from.row) c.loop-from.invariant.grown
+          (λ l h. let below = (net_within net.events net.links.now net.fit.within l h).0 in let last = in_counting l 0 (length net.links.now) h in c.loop-from.invariant.brought l (omega (arith, last)) (omega (arith, below, c.loop-from-test.false)));
+      kept = c.loop-from.invariant.kept;
+    }

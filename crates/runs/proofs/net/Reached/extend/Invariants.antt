@@ -1,21 +1,18 @@
-use Rattle.std.proofs.Common.{◌≡◌, ℕ, ◌<◌, length, drop}
-use Rattle.std.specs.Iterator.Adapters.{zip_first, zip_second}
-use Rattle.std.specs.Slice.Iter.{iter_rest}
-use Rattle.runs.specs.Links.{at}
-use Rattle.runs.proofs.Extending.{with_rest}
+use Rattle.std.proofs.Common.{◌≡◌, ℕ, ◌<◌, length}
+use Rattle.std.specs.Int.{bit_at}
+use Rattle.runs.specs.Links.{net_of, at}
+use Rattle.runs.specs.Rounds.{Brought, Grown}
 use Rattle.runs.proofs.net.Reached.extend.Given as goal
 
-abbrev pub invariant-loop-link : goal.invariant-loop-link
-invariant-loop-link g l =
+abbrev pub invariant-loop-from : goal.invariant-loop-from
+invariant-loop-from g l =
     let K = g.W.Weight.kind in
     let m = g.W.Weight.meaning in
     let net = l.self.net.now in
-    let rest = with_rest K net.links.now (at K m net.weights.now) (at K m l.self.weights.now) in
-    let k = length l.yielded in
+    let w = at K m net.weights.now in
+    let x = at K m l.self.weights.now in
     record {
-      can : (goal.iterator-loop-link g).can_next l.link-iterator;
-      finite : (goal.iterator-loop-link g).is_finite l.link-iterator;
-      links : iter_rest (zip_first l.link-iterator) ≡ drop k net.links.now;
-      weights : iter_rest (zip_second l.link-iterator) ≡ drop k net.weights.now;
-      chosen : (j : ℕ) → j < net.events → rest j k (at K m l.row j) ≡ rest j 0 (at K m l.initial.row j);
+      grown : Grown K (net_of net.links.now) w x (at K m l.initial.row) (at K m l.row);
+      brought : (k : ℕ) → k < length net.links.now → (net_of net.links.now).from k < l.from → Brought K (net_of net.links.now) w x (at K m l.row) k;
+      kept : (j : ℕ) → bit_at l.changed.0 j ≡ 0 → at K m l.row j ≡ at K m l.initial.row j;
     }
