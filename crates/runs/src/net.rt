@@ -58,7 +58,7 @@ fn seed_row<W: Weight>(i: usize, row: &mut [W])
 struct Events(u32);
 
 impl Events {
-    // The set of one event alone, which is empty where that isn't below 32.
+    // The set of one event, which is empty where that event isn't below 32.
     fn only(event: usize) -> Events
         ensures added { event < 32 → bit_at result.0 event ≡ 1 }
         ensures others { (e : ℕ) → e ≢ event → bit_at result.0 e ≡ 0 }
@@ -92,15 +92,16 @@ impl Events {
     }
 }
 
-// The links of a net from each event, last first. A link goes by its number plus one, and 0 stands for none: `last` holds the last link
-// from each event, and `earlier` the one before each link from the same event.
+// The links from each event, last first. A link goes by its number plus one, and 0 stands for none: `last` has the last link from each
+// event, and `earlier`, for each link, the one before it from the same event.
 #[derive(Drop)]
 pub(crate) struct Departures {
-    last: [usize; 32],
-    earlier: [usize; 128],
+    last: [u8; 32],
+    earlier: [u8; 128],
 }
 
 impl Departures {
+    // The links from each event.
     pub(crate) fn of(links: &[Link]) -> Departures
         requires few { length links.now ≤ 128 }
         requires within { AllByRecursion (λ l. l.from < 32) links.now }
@@ -111,7 +112,7 @@ impl Departures {
         for (number, link) in links.iter().enumerate() {
             let from = usize::from(link.from);
             earlier[number] = last[from];
-            last[from] = number + 1;
+            last[from] = number as u8 + 1;
         }
         Departures { last, earlier }
     }
@@ -149,7 +150,7 @@ impl<'a, W: Weight> Reached<'a, W> {
         ensures kept { (j : ℕ) → bit_at changed.new.0 j ≡ 0 → (bit_at changed.old.0 j ≡ 0) × (at W.kind W.meaning row.new j ≡ at W.kind W.meaning row.old j) }
     {
         let reaching = self.weights[from];
-        let mut next = self.net.departures.last[from];
+        let mut next = usize::from(self.net.departures.last[from]);
         while next > 0 {
             let number = next - 1;
             let to = usize::from(self.net.links[number].to);
@@ -158,12 +159,12 @@ impl<'a, W: Weight> Reached<'a, W> {
                 row[to] = chosen;
                 changed.add(to);
             }
-            next = self.net.departures.earlier[number];
+            next = usize::from(self.net.departures.earlier[number]);
         }
     }
 
     // Chooses, at the second event of each link, between the cell in the row and what reaches its first event, chained with the
-    // link, and tells which cells changed. Only the links from the events of `recent` are gone over: what any other brings was chosen before.
+    // link, and answers the events whose cells change. It goes over the links from recent events only: what another brings is in the row.
     fn extend(&self, row: &mut [W], recent: Events) -> Events
         requires side { length row.old ≡ self.now.net.now.events }
         requires brought { (l : ℕ) → l < length self.now.net.now.links.now → bit_at recent.0 ((net_of self.now.net.now.links.now).from l) ≡ 0 → Brought W.kind (net_of self.now.net.now.links.now) (at W.kind W.meaning self.now.net.now.weights.now) (at W.kind W.meaning self.now.weights.now) (at W.kind W.meaning row.old) l }
@@ -197,7 +198,8 @@ impl<'a, W: Weight> Reached<'a, W> {
 
 impl<'a, W: Weight> WeightedNet<'a, W> {
     // Writes into row `i` the choice over the runs of fewer links than there are events, a round for each, and ends early where a
-    // round changes nothing. `before` holds the row of the round before, and in the end the same row.
+    // round changes nothing. `before` holds the row of the round before, and in the end the same row; `recent` has the events whose
+    // cells changed in the last round.
     fn fill_row(&self, i: usize, row: &mut [W], before: &mut [W])
         requires side { length row.old ≡ self.now.events }
         requires same { length before.old ≡ length row.old }

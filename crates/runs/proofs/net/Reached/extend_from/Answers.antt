@@ -16,7 +16,7 @@ loop-next-init g c =
     let K = g.W.Weight.kind in
     let m = g.W.Weight.meaning in
     let net = c.args.self.now.net.now in
-    let last : LastFrom net.links.now (length net.links.now) c.args.from (get_or net.departures.last c.args.from 0) = net.departing.lasts c.args.from (omega (arith, c.requires.inside, net.few)) in
+    let last : LastFrom net.links.now (length net.links.now) c.args.from c.from-next.result = subst (LastFrom net.links.now (length net.links.now) c.args.from) (sym c.from-next.ensures) (net.departing.lasts c.args.from (omega (arith, c.requires.inside, net.few))) in
     record {
       place = last.is;
       inside = last.within;
@@ -65,7 +65,7 @@ loop-next-preserved g c =
     let at_end : s ((net_of ls).to k) ≡ K.choice (r ((net_of ls).to k)) (K.chaining (x ((net_of ls).from k)) (w k)) =
     subst (λ t. s t ≡ K.choice (r t) (K.chaining (x ((net_of ls).from k)) (w k))) to_is (here ∙ ap (λ f. K.choice (r to) (K.chaining (x f) (w k))) (sym from_is)) in
     let grown : Grown K (net_of ls) w x r s = grown_by K L I (net_of ls) w x r s k (counting_in k 0 (length ls) (omega arith) (omega (arith, inside))) at_end (λ j ne. others j (λ e. ne (e ∙ to_is))) in
-    let earlier : LastFrom ls k ((net_of ls).from k) (get_or net.departures.earlier k 0) = net.departing.earliers k inside in
+    let earlier : LastFrom ls k ((net_of ls).from k) c.from-next-in-loop-next.result = subst (LastFrom ls k ((net_of ls).from k)) (sym c.from-next-in-loop-next.ensures) (net.departing.earliers k inside) in
     record {
       place = λ some. earlier.is some ∙ from_is;
       inside = omega (arith, earlier.within, inside);
