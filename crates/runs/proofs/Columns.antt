@@ -1,10 +1,9 @@
 -- Reads and writes of weights by their places, and of a row of the cells: cell (i, j) stands at i × n + j.
-use Rattle.std.proofs.Common.{◌≡◌, ℕ, zero, suc, ◌+◌, ◌*◌, ◌<◌, ◌≤◌, List, [], ◌∷◌, ◌++◌, map, length, get_or, set, take, Decides, sym, ap, ◌∙◌, refl, subst, arith, below_more}
+use Rattle.std.proofs.Common.{◌≡◌, ℕ, zero, suc, ◌+◌, ◌*◌, ◌<◌, ◌≤◌, List, [], ◌∷◌, ◌++◌, map, length, get_or, set, take, sym, ap, ◌∙◌, subst, arith, below_more}
 use native.Mathlib.Decide.{dec_lt, ℕ_discrete}
 use borrow.Rule.Slice.PartMut.{put_mid, post_of}
-use Rattle.std.specs.List.{AllByRecursion, list_all, zip, take-map}
+use Rattle.std.specs.List.{AllByRecursion, take-map}
 use Rattle.std.proofs.lemmas.Nat.{mul-add-lt}
-use Rattle.std.proofs.lemmas.Bool.Decides.{Decides-and}
 use Rattle.std.proofs.lemmas.List.{map-append, map-set, length-map, length-take-le, get_or-set_same, get_or-set_other, get_or-map, get_or_past, get_or_append_left, get_or-append-add, get_or-take}
 use Rattle.weights.specs.Kinds.{Kind, Laws}
 use Rattle.runs.specs.Links.{at}
@@ -34,20 +33,6 @@ module _ (K : Kind) {X : Type 0} (m : X → K.carrier) where
 
   at_past : (xs : List X) (t : ℕ) → length xs ≤ t → at K m xs t ≡ K.none
   at_past xs t h = let hm : length (map m xs) ≤ t = rw length-map h in get_or_past (map m xs) t K.none hm
-
-  -- whether two rows are the same is asked pair by pair
-  pub same_rows : Laws K → (xs ys : List X) → length xs ≡ length ys → Decides (list_all (λ p. K.equal (m p.0) (m p.1)) (zip xs ys)) ((t : ℕ) → t < length xs → at K m xs t ≡ at K m ys t)
-  same_rows L [] ys len = (λ _ t h. absurd (omega arith), λ _. refl)
-  same_rows L (x ∷ xs) [] len = absurd (omega arith)
-  same_rows L (x ∷ xs) (y ∷ ys) len =
-      let both = Decides-and (K.equal (m x) (m y)) (list_all (λ p. K.equal (m p.0) (m p.1)) (zip xs ys)) (L.equal_says (m x) (m y)) (same_rows L xs ys (omega arith)) in (
-        λ e. each (both.0 e),
-        λ same. both.1 (same 0 (omega arith), λ t h. same (suc t) (omega arith)),
-      )
-    where
-      each : (m x ≡ m y) × ((t : ℕ) → t < length xs → at K m xs t ≡ at K m ys t) → (t : ℕ) → t < length (x ∷ xs) → at K m (x ∷ xs) t ≡ at K m (y ∷ ys) t
-      each same zero h = same.0
-      each same (suc t) h = same.1 t (omega arith)
 
   pub cleared_all : (xs : List X) → ((t : ℕ) → t < length xs → at K m xs t ≡ K.none) → (t : ℕ) → at K m xs t ≡ K.none
   cleared_all xs h t = elim (dec_lt t (length xs)) [ yes p ↦ h t p | no p ↦ at_past xs t (omega arith) ]

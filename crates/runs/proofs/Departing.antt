@@ -10,6 +10,7 @@ module _ (ls : List Link) where
   abbrev start_of : ℕ → ℕ
   start_of l = (get_or ls l no_link).from
 
+  -- the k-th link goes from another event
   last_past : (k e c : ℕ) → LastFrom ls k e c → (start_of k ≡ e → ⊥) → LastFrom ls (k + 1) e c
   last_past k e c t ne = record {
     within = omega (arith, t.within);
@@ -17,6 +18,7 @@ module _ (ls : List Link) where
     none_after = λ l low high same. elim (ℕ_discrete l k) [ yes here ↦ ne (ap start_of (sym here) ∙ same) | no other ↦ t.none_after l low (omega arith) same ];
   }
 
+  -- the k-th link goes from e
   last_here : (k e : ℕ) → start_of k ≡ e → LastFrom ls (k + 1) e (k + 1)
   last_here k e h = record {
     within = omega arith;
@@ -27,6 +29,7 @@ module _ (ls : List Link) where
   pub none_yet : (e : ℕ) → LastFrom ls 0 e 0
   none_yet e = record { within = omega arith; is = λ some. absurd (omega arith); none_after = λ l low high same. absurd (omega arith) }
 
+  -- one link more is written into both lists
   pub lasts_more : (last : List ℕ) (k from : ℕ) → length last ≡ 32 → from < 32 → start_of k ≡ from → ((e : ℕ) → e < 32 → LastFrom ls k e (get_or last e 0)) → (e : ℕ) → e < 32 → LastFrom ls (k + 1) e (get_or (set last from (k + 1)) e 0)
   lasts_more last k from size inside h before e below = elim (ℕ_discrete e from) [
     | yes q ↦ subst (λ z. LastFrom ls (k + 1) z (get_or (set last from (k + 1)) z 0)) (sym q) (subst (LastFrom ls (k + 1) from) (sym (get_or-set_same last from (k + 1) 0 (omega arith))) (last_here k from h))

@@ -1,5 +1,6 @@
--- A round from the cells that rose in the round before: what a link brings from any other was chosen then, in whatever order the links
--- are gone over. A cell never sinks, and none rises above what the round makes of it.
+-- A round goes on from the row of the round before, and only from the cells that rose then: what a link brings from any other was chosen
+-- before. In whatever order links are gone over, no cell sinks and none rises above what the round makes of it, and once each link is
+-- brought the row is that.
 use Rattle.std.proofs.Common.{◌≡◌, ℕ, zero, suc, ◌+◌, ◌-◌, ◌<◌, Bool, true, false, cond, eqb, List, [], ◌∷◌, sym, refl, ap, ◌∙◌, subst, inl, inr, arith, eq-eqb, eqb-true}
 use native.Mathlib.Decide.{ℕ_discrete}
 use Rattle.weights.specs.Kinds.{Kind, Laws, Idempotent, AtMost}

@@ -41,7 +41,7 @@ pub record LastFrom (ls : List Link) (k e c : ℕ) : Type 0 where
   pub is : 0 < c → (get_or ls (c - 1) no_link).from ≡ e
   pub none_after : (l : ℕ) → c ≤ l → l < k → (get_or ls l no_link).from ≡ e → ⊥
 
--- the last link from each event, and before each link the last from the same event
+-- of at most 128 links, the last from each event, and before each link the last from the same event
 pub record Departing (ls : List Link) (last earlier : List ℕ) : Type 0 where
   pub few : length ls ≤ 128
   pub lasts : (e : ℕ) → e < 32 → LastFrom ls (length ls) e (get_or last e 0)
